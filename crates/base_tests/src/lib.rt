@@ -1,0 +1,6 @@
+//! Tests of the crates below the map, at their limits.
+
+#[cfg(test)]
+mod keys_and_search;
+#[cfg(test)]
+mod supplies;

@@ -1,0 +1,3 @@
+pub mod Among
+pub mod Bytes
+pub mod Rises

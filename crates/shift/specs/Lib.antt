@@ -1,0 +1,2 @@
+pub mod Errands
+pub mod Lookups
