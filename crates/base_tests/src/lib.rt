@@ -3,4 +3,6 @@
 #[cfg(test)]
 mod keys_and_search;
 #[cfg(test)]
+mod nodes;
+#[cfg(test)]
 mod supplies;

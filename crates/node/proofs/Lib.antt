@@ -1,0 +1,17 @@
+pub mod Spans
+pub mod Adopts
+pub mod Runs
+pub mod Tabled
+pub mod Inserts
+pub mod Tails
+pub mod Rowed
+pub mod Neighbouring
+pub mod Merging
+pub mod Stealing
+pub mod Weaves
+pub mod Heights
+pub mod Frames
+pub mod Numbers
+pub mod Recounts
+pub mod Descents
+pub mod Sorting

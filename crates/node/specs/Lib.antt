@@ -1,0 +1,15 @@
+pub mod Shape
+pub mod Cells
+pub mod Store
+pub mod Rows
+pub mod Links
+pub mod Operations
+pub mod Kinds
+pub mod Neighbours
+pub mod Levels
+pub mod Counts
+pub mod Ends
+pub mod Laws
+pub mod Rules
+pub mod Cases
+pub mod Sorted
