@@ -71,12 +71,7 @@ impl NodeRef {
 }
 
 /// How many entries `node` has, where it lies in tables that fit together.
-pub(crate) fn len_in<K, V>(
-    heads: &[Head],
-    keys: &[K],
-    values: &[V],
-    node: u16,
-) -> Result<usize, Fault>
+pub fn len_in<K, V>(heads: &[Head], keys: &[K], values: &[V], node: u16) -> Result<usize, Fault>
     ensures { λ r. ⌜ Cases r (λ n. Lies (tables (now (heads .entry)) (now (keys .entry)) (now (values .entry))) node n) (λ _. Strange (tables (now (heads .entry)) (now (keys .entry)) (now (values .entry))) node) ⌝ }
 {
     let count = heads.len();

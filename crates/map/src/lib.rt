@@ -1,0 +1,4 @@
+//! Insertion and lookup in a tree that stands in the tables.
+
+pub mod laws;
+pub mod search;

@@ -1,0 +1,5 @@
+pub mod Nodes
+pub mod Ways
+pub mod Puts
+pub mod Grows
+pub mod Sorts
