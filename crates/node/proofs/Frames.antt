@@ -13,7 +13,7 @@ use Rattle.std.proofs.shelf.Tests.{cases-lt}
 use Rattle.node.specs.Cells.{Run}
 use Rattle.node.specs.Shape.{Tree, node, none, number, row, kids, kid, mk, total}
 use Rattle.node.specs.Store.{Tables, Node, Link, Linked, SameBody, SameLink, Changed, Holds, numbers, times, first, second, itself}
-use Rattle.node.specs.Laws.{occurs, below, Frame, Frame-changed, Held-inside, Held-low}
+use Rattle.node.specs.Laws.{occurs, below, Frame, Frame-changed, Frame-apart, Held-inside, Held-low}
 use Rattle.node.proofs.Adopts.{times-at}
 use Rattle.node.proofs.Runs.{run-same}
 use Rattle.node.proofs.Weaves.{trees-forest, total-each, total-some, all-both}
@@ -142,6 +142,17 @@ module _ {K V : Type 0} where
 
   pub frame-changed : Frame-changed K V
   frame-changed T T′ bs ls h t c f g w = frame T T′ h t (c .heads-len) (λ x p. c .bodies x (f x p)) (λ x p. c .links x (g x p)) w
+
+  pub frame-apart : Frame-apart K V
+  frame-apart T T′ bs ls h t k s a c inside w =
+      frame-changed T T′ bs ls h t c
+      (λ x p. none (times x bs) (λ q. a x p (inside x (omega arith))))
+      (λ x p. none (times x ls) (λ q. a x (omega (arith, occurs-below x h t)) (inside x (omega arith))))
+      w
+    where
+      none : (n : ℕ) → (0 < n → ⊥) → n ≡ 0
+      none zero f = refl
+      none (suc n) f = absurd (f (omega arith))
 
   -- a tree with child i in another form, k, under the same number
   pub holds-swap : (T T′ : Tables K V) (bs ls : List ℕ) (h : ℕ) (t : Tree (K × V)) (i : ℕ) (k : Tree (K × V)) → Changed T T′ bs ls → i < length (kids t) → number k ≡ number (kid t i)

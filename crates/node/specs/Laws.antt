@@ -3,6 +3,7 @@
 --   below x h t    the same, of the nodes below the root
 --   Distinct h t   no two nodes have one number
 --   Inside N h t   all numbers are below N
+--   Apart h t k s  no node of t has the number of a node of s
 --   nodes h t      how many nodes there are
 --   fewest h       the least number of nodes in a formed tree of height h that is not a root
 use mathlib.Core.Path.{_≡_}
@@ -30,6 +31,9 @@ below x (suc h) t = total (occurs x h) (kids t)
 abbrev pub Distinct : {E : Type 0} → ℕ → Tree E → Type 0
 Distinct h t = (x : ℕ) → occurs x h t ≤ 1
 
+abbrev pub Apart : {E : Type 0} → ℕ → Tree E → ℕ → Tree E → Type 0
+Apart h t k s = (x : ℕ) → 0 < occurs x h t → 0 < occurs x k s → ⊥
+
 abbrev pub Inside : {E : Type 0} → ℕ → ℕ → Tree E → Type 0
 Inside N h t = (x : ℕ) → 0 < occurs x h t → x < N
 
@@ -52,6 +56,13 @@ abbrev pub Frame-changed : Type 0 → Type 0 → Type 0
 Frame-changed K V =
     (T T′ : Tables K V) (bs ls : List ℕ) (h : ℕ) (t : Tree (K × V)) → Changed T T′ bs ls
     → ((x : ℕ) → 0 < occurs x h t → times x bs ≡ 0) → ((x : ℕ) → 0 < below x h t → times x ls ≡ 0)
+    → Holds T h t → Holds T′ h t
+
+-- of two trees that are apart, a change within the one leaves the other
+abbrev pub Frame-apart : Type 0 → Type 0 → Type 0
+Frame-apart K V =
+    (T T′ : Tables K V) (bs ls : List ℕ) (h : ℕ) (t : Tree (K × V)) (k : ℕ) (s : Tree (K × V)) → Apart h t k s → Changed T T′ bs ls
+    → ((x : ℕ) → 0 < times x bs + times x ls → 0 < occurs x k s)
     → Holds T h t → Holds T′ h t
 
 -- every node of a tree lies in the tables that hold it

@@ -2,12 +2,13 @@
 
 ghost use Rattle.node.specs.Cases.{Worked-cases};
 ghost use Rattle.node.specs.Sorted.{Sorted-rises, Index-parts};
-ghost use Rattle.node.specs.Laws.{Frame, Frame-changed, Held-inside, Height-bound, Many-nodes, Few-nodes, Low, Held-low, Recount, Ends-stand};
+ghost use Rattle.node.specs.Laws.{Frame, Frame-changed, Frame-apart, Held-inside, Height-bound, Many-nodes, Few-nodes, Low, Held-low, Recount, Ends-stand};
 
-/// Tables that agree on the nodes of a tree hold the same tree, and a change elsewhere leaves it.
+/// Tables that agree on the nodes of a tree hold the same tree; a change elsewhere leaves it, as a change within another tree that is apart from it.
 pub fn frame_stands<K, V>() -> u8
     ensures agreed { λ _. ⌜ Frame K V ⌝ }
     ensures changed { λ _. ⌜ Frame-changed K V ⌝ }
+    ensures apart { λ _. ⌜ Frame-apart K V ⌝ }
     ensures inside { λ _. ⌜ Held-inside K V ⌝ }
 {
     0
