@@ -3,3 +3,4 @@ pub mod Ways
 pub mod Puts
 pub mod Grows
 pub mod Sorts
+pub mod Cases

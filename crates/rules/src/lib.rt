@@ -1,5 +1,6 @@
 //! The rules of insertion on trees: each function stands for the theorems that its contract names.
 
+ghost use Rattle.rules.specs.Cases.{Worked-trees};
 ghost use Rattle.rules.specs.Laws.{Way-parts, Insert-formed, Insert-flat, Insert-numbers, Insert-size, Insert-sorted};
 
 /// The way of a search parts the entries.
@@ -16,6 +17,13 @@ pub fn insertion_stands<E>() -> u8
     ensures numbers { λ _. ⌜ Insert-numbers E ⌝ }
     ensures size { λ _. ⌜ Insert-size E ⌝ }
     ensures sorted { λ _. ⌜ Insert-sorted E ⌝ }
+{
+    0
+}
+
+/// The worked trees of insertion.
+pub fn cases_stand() -> u8
+    ensures { λ _. ⌜ Worked-trees ⌝ }
 {
     0
 }
