@@ -38,13 +38,13 @@ module _ {E : Type 0} (le : E → E → Bool) where
 
 module _ {E : Type 0} (place : E → Ordering) where
   -- below the query
-  abbrev b : E → Bool
+  abbrev pub b : E → Bool
   b e = isGt (place e)
 
   abbrev Not : List E → Type 0
   Not l = All (λ e. place e ≡ Equal → ⊥) l
 
-  first-is : (es : List E) → firstNotBelow place es ≡ index b es
+  pub first-is : (es : List E) → firstNotBelow place es ≡ index b es
   first-is [] = refl
   first-is (e ∷ es) = go (place e) (first-is es)
     where
@@ -76,7 +76,7 @@ module _ {E : Type 0} (place : E → Ordering) where
     pub nth-is : nth es (firstNotBelow place es) ≡ Some entry
     pub same : place entry ≡ Equal
 
-  hit : (es : List E) → foundAt place es ≡ true → Hit es
+  pub hit : (es : List E) → foundAt place es ≡ true → Hit es
   hit [] f = let z : _≡_ {A = ℕ} 0 1 = cc in absurd (omega arith)
   hit (e ∷ es) f =
       let r = go (place e) refl f (λ q. hit es q) in

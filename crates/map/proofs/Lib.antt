@@ -1,3 +1,4 @@
 pub mod Seeking
 pub mod Finds
 pub mod Inserting
+pub mod Replaces
