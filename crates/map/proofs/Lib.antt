@@ -2,3 +2,4 @@ pub mod Seeking
 pub mod Finds
 pub mod Inserting
 pub mod Replaces
+pub mod Writing

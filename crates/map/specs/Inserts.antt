@@ -1,6 +1,7 @@
 -- What it does to the tables to put an entry into a node of height h: with room, or by splitting a full one.
 --   Edges h c cs    the edges that come with an entry: none in a leaf, one to c above
 --   InsertsIn       node m has room: the entry e goes to index i, its edges behind edge i
+--   Replaces        the value at index i of node m is replaced, and the old one answered
 use mathlib.Core.Path.{_≡_}
 use mathlib.Core.List.{List, [], _∷_, _++_}
 use Prim.Native.Nat.{ℕ, _+_, _≤_, _<_}
@@ -8,7 +9,7 @@ use lib.ListN.{length}
 use Rattle.std.specs.declared.result.Result.{Result}
 use Rattle.std.specs.declared.result.Result.the-variants.{Ok}
 use Rattle.supply.specs.declared.faults.Fault.{Fault}
-use Rattle.node.specs.Store.{Tables, Sized, Node, Linked, Changed}
+use Rattle.node.specs.Store.{Tables, Sized, Node, Linked, Changed, first, second}
 use Rattle.node.specs.Operations.{Fan, Children}
 
 pub record Edges (h c : ℕ) (cs : List ℕ) : Type 0 where
@@ -39,3 +40,8 @@ InsertsRight {K} {V} T T′ h m i e c n r =
     → Edges h c cs → n < length (T .heads) → (n ≡ m → ⊥) → Children T (cs ++ (ms ++ ls))
     → (r ≡ Ok x) × Node T′ m es ks × Node T′ n (as′ ++ e ∷ bs) (ms ++ (cs ++ ls)) × Linked T′ n 0 ms × Linked T′ n (length ms) (cs ++ ls)
     × Changed T T′ (n ∷ m ∷ []) ((ms ++ ls) ++ (cs ++ ls))
+
+unfoldable pub Replaces : {K V : Type 0} → Tables K V → Tables K V → ℕ → ℕ → V → Result V Fault → Type 0
+Replaces {K} {V} T T′ m i v r =
+    (es : List (K × V)) (e : K × V) (fs : List (K × V)) (ks : List ℕ) → Sized T → Node T m (es ++ e ∷ fs) ks → length es ≡ i
+    → (r ≡ Ok (second e)) × Node T′ m (es ++ (first e, v) ∷ fs) ks × Changed T T′ (m ∷ []) []

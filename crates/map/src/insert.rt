@@ -1,12 +1,14 @@
-//! Insertion into one node, which is split where it is full.
+//! Insertion into one node, which is split where it is full, and replacement of a value.
 
 ghost use mathlib.Core.Path.{_≡_};
 ghost use Rattle.node.specs.Store.{tables};
-ghost use Rattle.map.specs.Inserts.{InsertsIn, InsertsLeft, InsertsRight};
+ghost use Rattle.map.specs.Inserts.{InsertsIn, InsertsLeft, InsertsRight, Replaces};
 use node::head::B;
+use node::head::CAPACITY;
 use node::head::Head;
 use node::nodes::ForceResult;
 use node::nodes::NodeRef;
+use node::nodes::len_in;
 use supply::Fault;
 
 /// Puts an entry at `idx` into a node that has room, and above the leaves an edge behind it.
@@ -55,4 +57,25 @@ pub fn insert_full<K: Copy, V: Copy>(
     };
     insert_fit(heads, keys, values, half, idx - (B + 1), key, val, edge)?;
     Ok(entry)
+}
+
+/// Replaces the value beside the key at `idx`; answers the old one.
+pub fn replace_value<K, V: Copy>(
+    heads: &[Head],
+    keys: &[K],
+    values: &mut [V],
+    node: u16,
+    idx: usize,
+    val: V,
+) -> Result<V, Fault>
+    ensures { λ r. ⌜ Replaces (tables (now (heads .entry)) (now (keys .entry)) (now (values .entry))) (tables (now (heads .entry)) (now (keys .entry)) (now (values .exit))) node idx val r ⌝ }
+{
+    let len = len_in(heads, keys, values, node)?;
+    if idx >= len {
+        return Err(Fault::Breach);
+    }
+    let at = CAPACITY * node as usize + idx;
+    let old = values[at];
+    values[at] = val;
+    Ok(old)
 }

@@ -1,0 +1,4 @@
+//! Tests of the map.
+
+#[cfg(test)]
+mod lookup;
