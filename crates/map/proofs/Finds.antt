@@ -38,13 +38,13 @@ module _ {E : Type 0} (le : E → E → Bool) where
 
 module _ {E : Type 0} (place : E → Ordering) where
   -- below the query
-  abbrev pub b : E → Bool
+  abbrev b : E → Bool
   b e = isGt (place e)
 
   abbrev Not : List E → Type 0
   Not l = All (λ e. place e ≡ Equal → ⊥) l
 
-  pub first-is : (es : List E) → firstNotBelow place es ≡ index b es
+  first-is : (es : List E) → firstNotBelow place es ≡ index b es
   first-is [] = refl
   first-is (e ∷ es) = go (place e) (first-is es)
     where
@@ -52,6 +52,13 @@ module _ {E : Type 0} (place : E → Ordering) where
       go Less q = refl
       go Equal q = refl
       go Greater q = omega arith
+
+  -- where the search in a node stops
+  abbrev pub at : Tree E → ℕ
+  at t = firstNotBelow place (row t)
+
+  pub at-le : (t : Tree E) → at t ≤ length (row t)
+  at-le t = omega (arith, first-is (row t), index-le b (row t))
 
   -- the first that is not below is above, where none was found
   abbrev Above : List E → Type 0
@@ -107,12 +114,6 @@ module _ {E : Type 0} (place : E → Ordering) where
     after-above : (ls : List (List E)) (es : List E) → Above es → Above (after ls es)
     after-above ls [] a = tt
     after-above ls (e ∷ es) a = a
-
-    abbrev at : Tree E → ℕ
-    at t = firstNotBelow place (row t)
-
-    at-le : (t : Tree E) → at t ≤ length (row t)
-    at-le t = omega (arith, first-is (row t), index-le b (row t))
 
     front-below : (t : Tree E) → All (λ e. b e ≡ true) (take (at t) (row t))
     front-below t = subst (λ i. All (λ e. b e ≡ true) (take i (row t))) (sym (first-is (row t))) (index-yes b (row t))

@@ -9,16 +9,15 @@ use lib.Seq.{split-at}
 use Rattle.std.specs.declared.cmp.Ordering.{Ordering}
 use Rattle.std.specs.declared.option.Option.{Option}
 use Rattle.std.specs.declared.option.Option.the-variants.{Some, None}
-use Rattle.order.specs.Found.{firstNotBelow, foundAt}
+use Rattle.order.specs.Found.{foundAt}
 use Rattle.node.specs.Shape.{Tree, node, none, number, row, kids, kid, mk, flat, before, after, weave, total, weigh, Within, Formed, rootLeast}
 use Rattle.node.specs.Rules.{whole, swap}
 use Rattle.node.proofs.Weaves.{total-append}
 use Rattle.rules.proofs.Nodes.{flat-mk, flat-open, flat-patch, weigh-mk, within-mk, within-kid, within-least, within-most, within-fan, within-limbs}
 use Rattle.rules.proofs.Grows.{rise-flat, rise-within}
-use Rattle.rules.proofs.Ways.{index-le}
 use Rattle.map.specs.Lookup.{nth, seek}
 use Rattle.map.specs.Replacing.{alter, amend, Altered, Amend-list, Amend-formed}
-use Rattle.map.proofs.Finds.{b, first-is, Hit, hit}
+use Rattle.map.proofs.Finds.{Hit, hit, at, at-le}
 
 module _ {E : Type 0} (f : E → E) where
   alter-length : (i : ℕ) (es : List E) → length (alter f i es) ≡ length es
@@ -48,115 +47,109 @@ module _ {E : Type 0} (f : E → E) where
   orElse d (Some e) = e
 
   module _ (place : E → Ordering) where
-    abbrev at : Tree E → ℕ
-    at t = firstNotBelow place (row t)
-
-    at-le : (t : Tree E) → at t ≤ length (row t)
-    at-le t = omega (arith, first-is place (row t), index-le (b place) (row t))
-
-    hit-is : (t : Tree E) (x : Hit place (row t)) (e : E) → nth (row t) (at t) ≡ Some e → x .entry ≡ e
+    hit-is : (t : Tree E) (x : Hit place (row t)) (e : E) → nth (row t) (at place t) ≡ Some e → x .entry ≡ e
     hit-is t x e q = ap (orElse (x .entry)) (sym (x .nth-is) ∙ q)
 
-    leaf-altered : (t : Tree E) (x : Hit place (row t)) → Altered f (x .entry) (row t) (alter f (at t) (row t))
+    leaf-altered : (t : Tree E) (x : Hit place (row t)) → Altered f (x .entry) (row t) (alter f (at place t) (row t))
     leaf-altered t x = record {
-      ante = take (at t) (row t);
+      ante = take (at place t) (row t);
       post = x .rest;
-      was = sym (take-append-drop (at t) (row t)) ∙ ap (λ r. take (at t) (row t) ++ r) (x .there);
-      now-is = alter-at (at t) (row t) (x .entry) (x .rest) (x .there);
+      was = sym (take-append-drop (at place t) (row t)) ∙ ap (λ r. take (at place t) (row t) ++ r) (x .there);
+      now-is = alter-at (at place t) (row t) (x .entry) (x .rest) (x .there);
     }
 
     module _ (least h : ℕ) (t : Tree E) (w : Within least (suc h) t) where
       abbrev ante : List E
-      ante = before (map (flat h) (take (at t) (kids t))) (take (at t) (row t))
+      ante = before (map (flat h) (take (at place t) (kids t))) (take (at place t) (row t))
 
       abbrev behind : List (List E)
-      behind = map (flat h) (drop (suc (at t)) (kids t))
+      behind = map (flat h) (drop (suc (at place t)) (kids t))
 
-      -- the list with another entry behind child `at t`
-      open-with : (x : E) (rest : List E) → weave (map (flat h) (kids t)) (take (at t) (row t) ++ x ∷ rest) ≡ (ante ++ flat h (kid t (at t))) ++ x ∷ weave behind rest
+      -- the list with another entry behind child `at place t`
+      open-with : (x : E) (rest : List E) → weave (map (flat h) (kids t)) (take (at place t) (row t) ++ x ∷ rest) ≡ (ante ++ flat h (kid t (at place t))) ++ x ∷ weave behind rest
       open-with x rest =
           let fan = within-fan least (suc h) t w in
-          let q = at-le t in
-          ap (λ r. weave (map (flat h) r) (take (at t) (row t) ++ x ∷ rest)) (split-at (kids t) (at t) (node 0 [] none) (omega arith))
-          ∙ flat-patch h (whole (kid t (at t))) (take (at t) (kids t)) (drop (suc (at t)) (kids t)) (take (at t) (row t)) (x ∷ rest) (simp length-take (omega arith))
-          ∙ sym (append-assoc ante (flat h (kid t (at t))) (x ∷ weave behind rest))
+          let q = at-le place t in
+          ap (λ r. weave (map (flat h) r) (take (at place t) (row t) ++ x ∷ rest)) (split-at (kids t) (at place t) (node 0 [] none) (omega arith))
+          ∙ flat-patch h (whole (kid t (at place t))) (take (at place t) (kids t)) (drop (suc (at place t)) (kids t)) (take (at place t) (row t)) (x ∷ rest) (simp length-take (omega arith))
+          ∙ sym (append-assoc ante (flat h (kid t (at place t))) (x ∷ weave behind rest))
 
-      inner-altered : (x : Hit place (row t)) → Altered f (x .entry) (weave (map (flat h) (kids t)) (row t)) (flat (suc h) (mk (number t) (alter f (at t) (row t)) (kids t)))
+      inner-altered : (x : Hit place (row t)) → Altered f (x .entry) (weave (map (flat h) (kids t)) (row t)) (flat (suc h) (mk (number t) (alter f (at place t) (row t)) (kids t)))
       unfolding leaf-altered
       inner-altered x =
           let a = leaf-altered t x in
           record {
-            ante = ante ++ flat h (kid t (at t));
+            ante = ante ++ flat h (kid t (at place t));
             post = weave behind (x .rest);
             was = ap (λ r. weave (map (flat h) (kids t)) r) (a .was) ∙ open-with (x .entry) (x .rest);
-            now-is = flat-mk h (number t) (alter f (at t) (row t)) (kids t) ∙ ap (λ r. weave (map (flat h) (kids t)) r) (a .now-is) ∙ open-with (f (x .entry)) (x .rest);
+            now-is = flat-mk h (number t) (alter f (at place t) (row t)) (kids t) ∙ ap (λ r. weave (map (flat h) (kids t)) r) (a .now-is) ∙ open-with (f (x .entry)) (x .rest);
           }
 
-      below-altered : (e : E) (k : Tree E) → Altered f e (flat h (kid t (at t))) (flat h k)
-          → Altered f e (flat (suc h) t) (flat (suc h) (mk (number t) (row t) (swap (at t) (k ∷ []) (kids t))))
+      below-altered : (e : E) (k : Tree E) → Altered f e (flat h (kid t (at place t))) (flat h k)
+          → Altered f e (flat (suc h) t) (flat (suc h) (mk (number t) (row t) (swap (at place t) (k ∷ []) (kids t))))
       below-altered e k a =
           let fan = within-fan least (suc h) t w in
-          let post : List E = after behind (drop (at t) (row t)) in
-          let c = lifts ante post e (flat h (kid t (at t))) (flat h k) a in
+          let post : List E = after behind (drop (at place t) (row t)) in
+          let c = lifts ante post e (flat h (kid t (at place t))) (flat h k) a in
           record {
             ante = c .ante;
             post = c .post;
-            was = flat-open h t (at t) (at-le t) fan ∙ c .was;
-            now-is = rise-flat h 0 (number t) (at t) (row t) (kids t) (whole k) (at-le t) fan ∙ c .now-is;
+            was = flat-open h t (at place t) (at-le place t) fan ∙ c .was;
+            now-is = rise-flat h 0 (number t) (at place t) (row t) (kids t) (whole k) (at-le place t) fan ∙ c .now-is;
           }
 
     amended : (least h : ℕ) (t : Tree E) → Within least h t → (e : E) → seek place h t ≡ Some e → Altered f e (flat h t) (flat h (amend f place h t))
     unfolding seek amend flat
     amended least zero t w e q = go (foundAt place (row t)) refl q
       where
-        go : (c : Bool) → foundAt place (row t) ≡ c → cond c (nth (row t) (at t)) None ≡ Some e → Altered f e (row t) (cond c (alter f (at t) (row t)) (row t))
-        go true p q = let x = hit place (row t) p in subst (λ y. Altered f y (row t) (alter f (at t) (row t))) (hit-is t x e q) (leaf-altered t x)
+        go : (c : Bool) → foundAt place (row t) ≡ c → cond c (nth (row t) (at place t)) None ≡ Some e → Altered f e (row t) (cond c (alter f (at place t) (row t)) (row t))
+        go true p q = let x = hit place (row t) p in subst (λ y. Altered f y (row t) (alter f (at place t) (row t))) (hit-is t x e q) (leaf-altered t x)
         go false p q = let z : _≡_ {A = ℕ} 0 1 = cc in absurd (omega arith)
-    amended least (suc h) t w e q = go (foundAt place (row t)) refl q (amended 4 h (kid t (at t)) (within-kid least h t (at t) w (at-le t)) e)
+    amended least (suc h) t w e q = go (foundAt place (row t)) refl q (amended 4 h (kid t (at place t)) (within-kid least h t (at place t) w (at-le place t)) e)
       where
-        go : (c : Bool) → foundAt place (row t) ≡ c → cond c (nth (row t) (at t)) (seek place h (kid t (at t))) ≡ Some e
-            → (seek place h (kid t (at t)) ≡ Some e → Altered f e (flat h (kid t (at t))) (flat h (amend f place h (kid t (at t)))))
+        go : (c : Bool) → foundAt place (row t) ≡ c → cond c (nth (row t) (at place t)) (seek place h (kid t (at place t))) ≡ Some e
+            → (seek place h (kid t (at place t)) ≡ Some e → Altered f e (flat h (kid t (at place t))) (flat h (amend f place h (kid t (at place t)))))
             → Altered f e (flat (suc h) t)
-            (flat (suc h) (cond c (mk (number t) (alter f (at t) (row t)) (kids t)) (mk (number t) (row t) (swap (at t) (amend f place h (kid t (at t)) ∷ []) (kids t)))))
+            (flat (suc h) (cond c (mk (number t) (alter f (at place t) (row t)) (kids t)) (mk (number t) (row t) (swap (at place t) (amend f place h (kid t (at place t)) ∷ []) (kids t)))))
         go true p q ih =
             let x = hit place (row t) p in
-            subst (λ y. Altered f y (flat (suc h) t) (flat (suc h) (mk (number t) (alter f (at t) (row t)) (kids t)))) (hit-is t x e q) (inner-altered least h t w x)
-        go false p q ih = below-altered least h t w e (amend f place h (kid t (at t))) (ih q)
+            subst (λ y. Altered f y (flat (suc h) t) (flat (suc h) (mk (number t) (alter f (at place t) (row t)) (kids t)))) (hit-is t x e q) (inner-altered least h t w x)
+        go false p q ih = below-altered least h t w e (amend f place h (kid t (at place t))) (ih q)
 
     amend-within : (least h : ℕ) (t : Tree E) → Within least h t → Within least h (amend f place h t)
     unfolding amend
     amend-within least zero t w = go (foundAt place (row t))
       where
-        go : (c : Bool) → Within least zero (mk (number t) (cond c (alter f (at t) (row t)) (row t)) (kids t))
+        go : (c : Bool) → Within least zero (mk (number t) (cond c (alter f (at place t) (row t)) (row t)) (kids t))
         go true =
-            let l = alter-length (at t) (row t) in
-            within-mk least zero (number t) (alter f (at t) (row t)) (kids t) (omega (arith, within-least least zero t w)) (omega (arith, within-most least zero t w)) (within-fan least zero t w) tt
+            let l = alter-length (at place t) (row t) in
+            within-mk least zero (number t) (alter f (at place t) (row t)) (kids t) (omega (arith, within-least least zero t w)) (omega (arith, within-most least zero t w)) (within-fan least zero t w) tt
         go false = within-mk least zero (number t) (row t) (kids t) (within-least least zero t w) (within-most least zero t w) (within-fan least zero t w) tt
-    amend-within least (suc h) t w = go (foundAt place (row t)) (amend-within 4 h (kid t (at t)) (within-kid least h t (at t) w (at-le t)))
+    amend-within least (suc h) t w = go (foundAt place (row t)) (amend-within 4 h (kid t (at place t)) (within-kid least h t (at place t) w (at-le place t)))
       where
-        go : (c : Bool) → Within 4 h (amend f place h (kid t (at t)))
-            → Within least (suc h) (cond c (mk (number t) (alter f (at t) (row t)) (kids t)) (mk (number t) (row t) (swap (at t) (amend f place h (kid t (at t)) ∷ []) (kids t))))
+        go : (c : Bool) → Within 4 h (amend f place h (kid t (at place t)))
+            → Within least (suc h) (cond c (mk (number t) (alter f (at place t) (row t)) (kids t)) (mk (number t) (row t) (swap (at place t) (amend f place h (kid t (at place t)) ∷ []) (kids t))))
         go true ih =
-            let l = alter-length (at t) (row t) in
-            within-mk least (suc h) (number t) (alter f (at t) (row t)) (kids t) (omega (arith, within-least least (suc h) t w)) (omega (arith, within-most least (suc h) t w))
+            let l = alter-length (at place t) (row t) in
+            within-mk least (suc h) (number t) (alter f (at place t) (row t)) (kids t) (omega (arith, within-least least (suc h) t w)) (omega (arith, within-most least (suc h) t w))
             (omega (arith, within-fan least (suc h) t w)) (within-limbs least (suc h) t w)
         go false ih =
-            rise-within least h 0 (number t) (at t) (row t) (kids t) (whole (amend f place h (kid t (at t))))
-            (within-least least (suc h) t w) (within-most least (suc h) t w) (at-le t) (within-fan least (suc h) t w) (within-limbs least (suc h) t w) ih
+            rise-within least h 0 (number t) (at place t) (row t) (kids t) (whole (amend f place h (kid t (at place t))))
+            (within-least least (suc h) t w) (within-most least (suc h) t w) (at-le place t) (within-fan least (suc h) t w) (within-limbs least (suc h) t w) ih
 
     amend-weigh : (v : ℕ → ℕ) (least h : ℕ) (t : Tree E) → Within least h t → weigh v h (amend f place h t) ≡ weigh v h t
     unfolding amend weigh
     amend-weigh v least zero t w = refl
-    amend-weigh v least (suc h) t w = go (foundAt place (row t)) (amend-weigh v 4 h (kid t (at t)) (within-kid least h t (at t) w (at-le t)))
+    amend-weigh v least (suc h) t w = go (foundAt place (row t)) (amend-weigh v 4 h (kid t (at place t)) (within-kid least h t (at place t) w (at-le place t)))
       where
-        go : (c : Bool) → weigh v h (amend f place h (kid t (at t))) ≡ weigh v h (kid t (at t))
-            → weigh v (suc h) (cond c (mk (number t) (alter f (at t) (row t)) (kids t)) (mk (number t) (row t) (swap (at t) (amend f place h (kid t (at t)) ∷ []) (kids t))))
+        go : (c : Bool) → weigh v h (amend f place h (kid t (at place t))) ≡ weigh v h (kid t (at place t))
+            → weigh v (suc h) (cond c (mk (number t) (alter f (at place t) (row t)) (kids t)) (mk (number t) (row t) (swap (at place t) (amend f place h (kid t (at place t)) ∷ []) (kids t))))
             ≡ v (number t) + total (weigh v h) (kids t)
-        go true ih = weigh-mk v h (number t) (alter f (at t) (row t)) (kids t)
+        go true ih = weigh-mk v h (number t) (alter f (at place t) (row t)) (kids t)
         go false ih =
-            let i : ℕ = at t in
+            let i : ℕ = at place t in
             let k : Tree E = amend f place h (kid t i) in
-            let q : i < length (kids t) = omega (arith, at-le t, within-fan least (suc h) t w) in
+            let q : i < length (kids t) = omega (arith, at-le place t, within-fan least (suc h) t w) in
             omega (
               arith,
               ih,
