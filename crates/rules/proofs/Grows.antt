@@ -1,5 +1,5 @@
 -- Insertion: what it keeps and what it adds.
-use mathlib.Core.Path.{_≡_, refl, sym, _∙_, ap, subst}
+use mathlib.Core.Path.{_≡_, refl, sym, _∙_, ap, ap₂, subst}
 use mathlib.Core.List.{List, [], _∷_, _++_, map, append-assoc}
 use mathlib.Core.Bool.{Bool, true, false, cond}
 use mathlib.Core.Logic.{_⊎_, inl, inr, ⊎-elim}
@@ -15,7 +15,7 @@ use Rattle.node.specs.Shape.{Tree, Forest, node, none, number, row, kids, kid, 
 use Rattle.rules.specs.Rules.{low, high, flats, weighs, part, rise, grow, planted, insert, run, upto}
 use Rattle.node.specs.Rules.{Grown, whole, parted, settle, put, swap}
 use Rattle.node.specs.Sorted.{index}
-use Rattle.rules.specs.Laws.{Insert-formed, Insert-flat, Insert-numbers, Insert-size}
+use Rattle.rules.specs.Laws.{Insert-formed, Insert-flat, Insert-numbers, Insert-size, Grow-agrees}
 use Rattle.node.proofs.Weaves.{trees-forest, total-append, total-cut}
 use Rattle.rules.proofs.Nodes.{flat-mk, flat-leaf, flat-patch, weigh-mk, within-mk, within-least, within-most, within-fan, within-limbs, within-kid, Limbs, part-flat, part-weigh, part-within}
 use Rattle.rules.proofs.Ways.{index-le}
@@ -197,3 +197,10 @@ upto-one (suc n) = omega (arith, upto-one n)
 
 pub insert-size : {E : Type 0} → Insert-size E
 insert-size fresh top b e h t v = insert-numbers (λ _. 1) fresh top b e h t v .0 ∙ ap (λ n. weigh (λ _. 1) h t + (n + cond (leb (suc h) (run b h t)) 1 0)) (upto-one (run b h t))
+
+pub grow-agrees : {E : Type 0} → Grow-agrees E
+unfolding grow
+grow-agrees fresh fresh′ b e zero t a = ap (λ n. settle n (number t) (index b (row t)) (row t) [] e []) (a 0 (omega arith))
+grow-agrees fresh fresh′ b e (suc h) t a =
+    ap₂ (λ n g. rise n (number t) (index b (row t)) (row t) (kids t) g) (a (suc h) (omega arith))
+    (grow-agrees fresh fresh′ b e h (kid t (index b (row t))) (λ l p. a l (omega arith)))

@@ -7,7 +7,7 @@ use lib.Dec.{leb}
 use Rattle.std.specs.shelf.Lists.{All}
 use Rattle.node.specs.Shape.{Tree, flat, weigh, Formed}
 use Rattle.node.specs.Sorted.{Rising, Sorted, Downward}
-use Rattle.rules.specs.Rules.{insert, low, high, run, upto}
+use Rattle.rules.specs.Rules.{grow, insert, low, high, run, upto}
 
 -- the way of the index parts the entries: if they rise, what is below the query from what is not
 abbrev pub Way-parts : Type 0 → Type 0
@@ -49,3 +49,9 @@ Insert-size E =
     (fresh : ℕ → ℕ) (top : ℕ) (b : E → Bool) (e : E) (h : ℕ) (t : Tree E) → Formed h t
     → weigh (λ _. 1) (insert fresh top b e h t .0) (insert fresh top b e h t .1)
     ≡ weigh (λ _. 1) h t + (run b h t + cond (leb (suc h) (run b h t)) 1 0)
+
+-- of the fresh numbers only those up to the tree's height are read
+abbrev pub Grow-agrees : Type 0 → Type 0
+Grow-agrees E =
+    (fresh fresh′ : ℕ → ℕ) (b : E → Bool) (e : E) (h : ℕ) (t : Tree E) → ((l : ℕ) → l ≤ h → fresh l ≡ fresh′ l)
+    → grow fresh b e h t ≡ grow fresh′ b e h t

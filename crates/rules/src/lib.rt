@@ -1,7 +1,7 @@
 //! The rules of insertion on trees: each function stands for the theorems that its contract names.
 
 ghost use Rattle.rules.specs.Cases.{Worked-trees};
-ghost use Rattle.rules.specs.Laws.{Way-parts, Insert-formed, Insert-flat, Insert-numbers, Insert-size, Insert-sorted};
+ghost use Rattle.rules.specs.Laws.{Way-parts, Insert-formed, Insert-flat, Insert-numbers, Insert-size, Insert-sorted, Grow-agrees};
 
 /// The way of a search parts the entries.
 pub fn way_stands<E>() -> u8
@@ -17,6 +17,7 @@ pub fn insertion_stands<E>() -> u8
     ensures numbers { λ _. ⌜ Insert-numbers E ⌝ }
     ensures size { λ _. ⌜ Insert-size E ⌝ }
     ensures sorted { λ _. ⌜ Insert-sorted E ⌝ }
+    ensures agrees { λ _. ⌜ Grow-agrees E ⌝ }
 {
     0
 }
