@@ -1,4 +1,5 @@
 //! Tests of the crates below the map, at their limits.
+#![tactic(auto)]
 
 #[cfg(test)]
 mod keys_and_search;

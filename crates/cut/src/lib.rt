@@ -1,4 +1,5 @@
 //! A tree in the caller's tables cut in two.
+#![tactic(auto)]
 
 pub mod descent;
 pub mod spine;

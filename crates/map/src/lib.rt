@@ -1,4 +1,5 @@
 //! Insertion and lookup in a tree that stands in the tables.
+#![tactic(auto)]
 
 pub mod insert;
 pub mod laws;

@@ -1,4 +1,5 @@
 //! Tests of the map.
+#![tactic(auto)]
 
 #[cfg(test)]
 mod lookup;

@@ -1,4 +1,5 @@
 //! Nodes of a B-tree in three tables of the caller.
+#![tactic(auto)]
 
 pub mod border;
 pub mod cells;

@@ -1,4 +1,5 @@
 //! The rules of a cut on trees: each function stands for the theorems that its contract names.
+#![tactic(auto)]
 
 ghost use Rattle.parts.specs.Cases.{WorkedCuts};
 ghost use Rattle.parts.specs.Laws.{CutFormed, CutFlat, CutParts, CutSorted, CutNumbers, CutBound};

@@ -1,4 +1,5 @@
 //! The border of a tree repaired after a cut.
+#![tactic(auto)]
 
 pub mod border;
 pub mod joint;

@@ -1,4 +1,5 @@
 //! Performs a script of calls on sixteen books of one supply, and prints an answer a line: for comparison with the original map.
+#![tactic(auto)]
 
 mod desk;
 mod script;

@@ -1,4 +1,5 @@
 //! The rules of insertion on trees: each function stands for the theorems that its contract names.
+#![tactic(auto)]
 
 ghost use Rattle.rules.specs.Cases.{WorkedTrees};
 ghost use Rattle.rules.specs.Held.{HeldStands};

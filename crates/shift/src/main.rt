@@ -1,4 +1,5 @@
 //! A shift on paper: the card of the node supplies, and the day's batches looked up.
+#![tactic(auto)]
 
 mod batches;
 mod card;

@@ -3,7 +3,7 @@ use Rattle.std.proofs.Common.{◌≡◌, ℕ, zero, suc, ◌+◌, ◌-◌, ◌<�
 use lib.Seq.{take-set-lt}
 use Rattle.std.specs.List.{range_with_len}
 use Rattle.std.proofs.lemmas.List.FromFn.{length-range_with_len, get_or-range_with_len}
-use Rattle.std.proofs.lemmas.List.{get_or-set_same, get_or-set_other, get_or-take, get_or-map, length-map, length-take, length-take-le, map-set}
+use Rattle.std.proofs.lemmas.List.{get_or-set_same, get_or-set_other, get_or-take, get_or-map, length-map, length-take-le, map-set}
 use Rattle.std.proofs.lemmas.Bool.{eqb-true, ne_eqb}
 use Rattle.supply.specs.declared.links.Chain.{Chain}
 use Rattle.supply.specs.Stocks.{marked, counted, fresh, Given, Returned}
@@ -15,10 +15,6 @@ use Rattle.supply.specs.StockLaws.{counted_given, counted_returned, counted_fres
 pub length_marks : (n : ℕ) (l : List ℕ) → n ≤ length l → length (link_marks n l) ≡ n
 unfolding link_marks
 length_marks n l h = length-map (take n l) (λ x. eqb x 65535) ∙ length-take-le n l h
-
-pub marks_most : (n : ℕ) (l : List ℕ) → length (link_marks n l) ≤ n
-unfolding link_marks
-marks_most n l = omega (arith, length-map (take n l) (λ x. eqb x 65535), length-take n l)
 
 pub index_marks : (n : ℕ) (l : List ℕ) (k : ℕ) → n ≤ length l → k < n → get_or (link_marks n l) k false ≡ eqb (get_or l k 0) 65535
 unfolding link_marks

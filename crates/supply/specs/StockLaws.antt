@@ -1,10 +1,13 @@
 -- Laws of what a supply means. Assumes nothing.
-use Rattle.std.specs.Prelude.{◌≡◌, ℕ, zero, suc, ◌+◌, ◌-◌, ◌^◌, ◌<◌, ◌≤◌, Bool, true, false, cond, List, [], ◌∷◌, length, set, replicate, slice_index_or, slice_set, refl}
+use Rattle.std.specs.Prelude.{◌≡◌, ℕ, zero, suc, ◌+◌, ◌^◌, ◌<◌, ◌≤◌, Bool, true, false, cond, List, [], ◌∷◌, length, set, replicate, take, nat_eq, slice_index_or, slice_set, refl}
 use Rattle.std.proofs.Common.{sym, ap, ap₂, ◌∙◌, ⊎_elim, zero-add, one-add, arith}
-use Rattle.std.proofs.lemmas.List.{get_or-set_same, get_or-set_other, set-set, set-get_or, get_or_past, length-set, length-replicate}
+use Rattle.std.proofs.lemmas.List.{length-map, get_or-set_same, get_or-set_other, set-set, set-get_or, get_or_past, length-set, length-replicate}
+use Rattle.std.proofs.Common.{length-take}
 use Rattle.std.proofs.lemmas.List.Sums.{sum_by-cons, sum_by-set, count_by-le-length}
 use Rattle.std.proofs.lemmas.Bool.{both_ways, cases_lt}
 use Rattle.std.proofs.lemmas.Bool.Decides.{nat_tests}
+use Rattle.supply.specs.Words.{spread, bit_stock}
+use Rattle.supply.specs.Rows.{link_marks, link_stock}
 use Rattle.supply.specs.Stocks.{Stock, is_out, marked, counted, fresh, kept_size, Sound, Given, Returned}
 
 -- ---- any stock: for callers
@@ -31,6 +34,17 @@ set_unused m n h = ap (set m n) (sym h) ∙ set-get_or m n false
 
 pub counted_sound : (m : List Bool) → length m < 2 ^ 16 → Sound (counted m)
 counted_sound m h = record { within = omega (arith, count_by-le-length (λ b. b) m); small = h }
+
+-- the marks of words and of links are at most as many as the size
+pub bits_sound : (size : ℕ) (words : List ℕ) → size ≤ 4096 → Sound (bit_stock size words)
+bits_sound size words h = counted_sound (take size (spread words)) (omega (arith, length-take size (spread words)))
+
+pub marks_most : (n : ℕ) (l : List ℕ) → length (link_marks n l) ≤ n
+unfolding link_marks
+marks_most n l = omega (arith, length-map (take n l) (λ x. nat_eq x 65535), length-take n l)
+
+pub links_sound : (size : ℕ) (links : List ℕ) → size ≤ 4096 → Sound (link_stock size links)
+links_sound size links h = counted_sound (link_marks size links) (omega (arith, marks_most size links))
 
 pub marked_given : (m : List Bool) (n : ℕ) → n < length m → slice_index_or m n false ≡ false → marked (slice_set m n true) ≡ marked m + 1
 marked_given m n h f =

@@ -1,11 +1,9 @@
 //! A supply with one bit for each number.
 
 ghost use Rattle.std.specs.Prelude.{◌≡◌, ℕ, ◌<◌, ◌≤◌, true, false, not, drop, set, slice_index_or, slice_set};
-ghost use Rattle.std.proofs.Common.{length-take, arith};
 ghost use Rattle.supply.specs.Stocks.{Taken, fresh, kept_size, marked};
 ghost use Rattle.supply.specs.Words.{TookLowest, spread, bit_stock};
-ghost use Rattle.std.proofs.Math.ListN;
-ghost use Rattle.supply.specs.StockLaws.{counted_sound};
+ghost use Rattle.supply.specs.StockLaws.{bits_sound};
 
 use crate::{Fault, MOST, Supply, kept_size};
 
@@ -79,7 +77,7 @@ impl Bitmap {
 impl Supply for Bitmap {
     ghost stock = { λ s. bit_stock s.size s.words };
 
-    ghost sound = { λ s. counted_sound (ListN.take s.size (spread s.words)) (omega (arith, s.fits, length-take s.size (spread s.words))) };
+    ghost sound = { λ s. bits_sound s.size s.words s.fits };
 
     /// The lowest number that is not out.
     fn take(&mut self) -> Result<u16, Fault>

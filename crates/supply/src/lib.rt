@@ -1,4 +1,5 @@
 //! Node numbers, handed out and taken back.
+#![tactic(auto)]
 
 ghost use Rattle.std.specs.Prelude.{◌≡◌};
 ghost use Rattle.supply.specs.Stocks.{Stock, size_of, is_out, outs_of, kept_size, Sound, Taken, GivenBack, TakenTwo, Drained};
@@ -53,7 +54,7 @@ pub trait Supply {
 
 /// Two numbers, or none: where only one can be had, it goes back.
 pub fn take_two<S: Supply>(supply: &mut S) -> Result<(u16, u16), Fault>
-    ensures { TakenTwo (stock supply.old) (stock supply.new) result }
+    ensures { TakenTwo (S.stock supply.old) (S.stock supply.new) result }
 {
     let allowance = supply.allowance();
     let short = Fault::Short {
@@ -74,7 +75,7 @@ pub fn take_two<S: Supply>(supply: &mut S) -> Result<(u16, u16), Fault>
 
 /// Takes all that may be taken, and says how many those were.
 pub fn drain<S: Supply>(supply: &mut S) -> u16
-    ensures { Drained (stock supply.old) (stock supply.new) result }
+    ensures { Drained (S.stock supply.old) (S.stock supply.new) result }
 {
     let count = supply.allowance();
     while let Ok(_) = supply.take() {}

@@ -4,7 +4,7 @@ ghost use Rattle.std.specs.Prelude.{◌≡◌, ◌+◌, ◌<◌, ◌≤◌};
 ghost use Rattle.std.specs.List.{range_with_len};
 ghost use Rattle.supply.specs.Stocks.{Taken, GivenBack, fresh, kept_size, marked};
 ghost use Rattle.supply.specs.Rows.{Below, Unused, Apart, Rising, TookFirst, PutFirst, row_of, link_marks, link_stock};
-ghost use Rattle.std.proofs.Common.{rules, arith};
+ghost use Rattle.supply.specs.StockLaws.{links_sound};
 
 use crate::{Fault, Supply, kept_size};
 
@@ -57,7 +57,7 @@ impl Chain {
 impl Supply for Chain {
     ghost stock = { λ s. link_stock s.size s.links };
 
-    ghost sound = { first_of (Prim.search rules, Prim.grind (arith, Self.row.coded.inj)) };
+    ghost sound = { λ s. links_sound s.size s.links s.fits };
 
     /// The first number of the row.
     fn take(&mut self) -> Result<u16, Fault>

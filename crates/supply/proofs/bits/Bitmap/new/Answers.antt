@@ -7,7 +7,7 @@ use Rattle.supply.proofs.bits.Bitmap.new.Goals as goal
 pub invariant_of-result : goal.invariant_of-result
 invariant_of-result c =
     let n = c.kept_size-size.result in
-    (omega (arith, c.kept_size-size.ensures, kept_most c.args.size), (new_clear n, tt))
+    record { fits = omega (arith, c.kept_size-size.ensures, kept_most c.args.size); clear = new_clear n }
 
 pub returns : goal.returns
 returns c =

@@ -11,7 +11,7 @@ invariant_of-result c =
     let long : length l ≡ 4096 = omega arith in
     let n = c.kept_size-size.result in
     let x = new_chained l c.rising-links.ensures long n (omega (arith, c.kept_size-size.ensures, kept_most c.args.size)) in
-    (x.fits, (x.counts, (x.inner, (x.below, (x.unused, (x.apart, tt))))))
+    record { fits = x.fits; counts = x.counts; inner = x.inner; below = x.below; unused = x.unused; apart = x.apart }
 
 pub returns : goal.returns
 returns c =

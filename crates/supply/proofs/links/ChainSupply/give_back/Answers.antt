@@ -11,7 +11,7 @@ pub invariant_of-self : goal.invariant_of-self
 invariant_of-self c =
     let s = c.args.self.now in
     let x = back_chained s.links s.size s.head s.left c.args.node (omega arith) (chained_of s) (sym c.if-not-is_out.ensures) in
-    (x.fits, (x.counts, (x.inner, (x.below, (x.unused, (x.apart, tt))))))
+    record { fits = x.fits; counts = x.counts; inner = x.inner; below = x.below; unused = x.unused; apart = x.apart }
 
 pub returns : goal.returns
 returns c =

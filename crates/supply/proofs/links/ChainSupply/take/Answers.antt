@@ -20,7 +20,7 @@ pub invariant_of-self : goal.invariant_of-self
 invariant_of-self c =
     let s = c.args.self.now in
     let x = taken_chained s.links s.size s.head s.left (omega arith) (chained_of s) (omega arith) (omega arith) in
-    (x.fits, (x.counts, (x.inner, (x.below, (x.unused, (x.apart, tt))))))
+    record { fits = x.fits; counts = x.counts; inner = x.inner; below = x.below; unused = x.unused; apart = x.apart }
 
 pub returns : goal.returns
 returns c =
