@@ -1,11 +1,11 @@
 -- Children that get a new parent, one after another. Assumes nothing.
-use Rattle.std.proofs.Common.{◌≡◌, ℕ, zero, suc, ◌+◌, ◌-◌, ◌<◌, ◌≤◌, Bool, true, false, cond, eqb, ◌⊎◌, List, [], ◌∷◌, ◌++◌, length, get_or, set, All, sym, refl, ap, ◌∙◌, subst, inl, inr, ⊎_elim, arith, length-append, length-set}
+use Rattle.std.proofs.Common.{◌≡◌, ℕ, zero, suc, ◌+◌, ◌-◌, ◌<◌, ◌≤◌, ◌⊎◌, List, [], ◌∷◌, ◌++◌, length, get_or, set, All, sym, refl, ap, ◌∙◌, subst, inl, inr, ⊎_elim, arith, length-set}
 use Rattle.std.proofs.lemmas.List.{get_or-set_same, get_or-set_other, get_or_append_left, get_or_push, length_push}
 use Rattle.std.proofs.lemmas.Bool.{cases_eq, cases_lt}
 use Rattle.std.proofs.lemmas.Bool.Decides.{nat_tests}
 use Rattle.node.specs.declared.head.Head.{Head}
-use Rattle.node.specs.Store.{head_in, no_head, times, Once}
-use Rattle.std.proofs.lemmas.List.Elements.{All-get_or}
+use Rattle.node.specs.Store.{head_in, no_head, times}
+use Rattle.std.proofs.lemmas.List.Elements.{All-get_or, All-nil, All-cons, All-head, All-tail}
 use Rattle.node.specs.Cells.{span}
 use Rattle.node.specs.Links.{Adopted, relink, edge}
 use Rattle.node.proofs.Spans.{span_more, span_len, span_at}
@@ -26,12 +26,12 @@ times_at (y ∷ xs) (suc j) l = omega (arith, times_at xs j (omega arith))
 
 -- what holds of each of a list, of its parts
 pub all_front : (P : ℕ → Type 0) (xs ys : List ℕ) → All P (xs ++ ys) → All P xs
-all_front P [] ys a = tt
-all_front P (x ∷ xs) ys a = (a.0, all_front P xs ys a.1)
+all_front P [] ys a = All-nil P
+all_front P (x ∷ xs) ys a = All-cons P x xs (All-head P x (xs ++ ys) a) (all_front P xs ys (All-tail P x (xs ++ ys) a))
 
 pub all_back : (P : ℕ → Type 0) (xs ys : List ℕ) → All P (xs ++ ys) → All P ys
 all_back P [] ys a = a
-all_back P (x ∷ xs) ys a = all_back P xs ys a.1
+all_back P (x ∷ xs) ys a = all_back P xs ys (All-tail P x (xs ++ ys) a)
 
 -- a write to head y that keeps a field keeps that field everywhere
 pub kept_by_set : {X : Type 0} (f : Head → X) (H : List Head) (y : ℕ) (h : Head) → f h ≡ f (head_in H y) → y < length H → (x : ℕ) → f (head_in (set H y h) x) ≡ f (head_in H x)

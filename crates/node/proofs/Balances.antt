@@ -1,10 +1,9 @@
 -- One change of tables and supply after another. Assumes nothing.
-use Rattle.std.proofs.Common.{◌≡◌, ℕ, ◌+◌, ◌<◌, ◌≤◌, Bool, true, false, cond, eqb, List, length, sym, refl, ap, ◌∙◌, subst, arith, eqb-true}
+use Rattle.std.proofs.Common.{◌≡◌, ℕ, ◌+◌, ◌<◌, ◌≤◌, Bool, true, false, cond, eqb, List, refl, ap, ◌∙◌, arith, eqb-true}
 use borrow.Author.Tests.{eqb-false}
-use Rattle.supply.specs.Stocks.{Stock, size_of, is_out, outs_of, Given, Returned}
-use Rattle.node.specs.Shape.{Tree}
-use Rattle.node.specs.Store.{Tables, Sized, Holds, SameBody, SameLink, Changed, times}
-use Rattle.node.specs.Laws.{occurs, below, same}
+use Rattle.supply.specs.Stocks.{Stock, is_out, Given, Returned}
+use Rattle.node.specs.Store.{Tables, Sized, Changed, times}
+use Rattle.node.specs.Laws.{same}
 use Rattle.node.specs.Balance.{mark, Balanced, Beside, FrameBeside}
 use Rattle.node.proofs.Frames.{frame}
 use Rattle.node.proofs.Numbers.{occurs_below}

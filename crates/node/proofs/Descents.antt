@@ -5,8 +5,8 @@ use Rattle.node.specs.declared.head.Head.{Head}
 use Rattle.node.specs.declared.ends.Handle.{Handle}
 use Rattle.node.specs.declared.ends.Side.{Side}
 use Rattle.node.specs.declared.ends.Side.TheVariants.{First, Last}
-use Rattle.node.specs.Shape.{Tree, node, none, number, row, kids, kid}
-use Rattle.node.specs.Store.{Tables, Holds, head_in}
+use Rattle.node.specs.Shape.{node, none, number, row, kids, kid}
+use Rattle.node.specs.Store.{head_in}
 use Rattle.node.specs.Links.{edge}
 use Rattle.node.specs.Counts.{Stands}
 use Rattle.node.specs.Ends.{end_index, end_below, end_leaf, Chain, end_edge, end_tree}

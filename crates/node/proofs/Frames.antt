@@ -2,7 +2,7 @@
 use Rattle.std.proofs.Common.{◌≡◌, ℕ, zero, suc, ◌+◌, ◌-◌, ◌*◌, ◌<◌, ◌≤◌, List, [], ◌∷◌, ◌++◌, map, length, get_or, take, drop, All, sym, refl, ap, ◌∙◌, subst, ⊎_elim, arith, length-append}
 use lib.ListN.{length-map}
 use lib.Seq.{split_at}
-use Rattle.std.proofs.lemmas.List.Elements.{All-get_or, All-weaker, All-append, All-take, All-drop}
+use Rattle.std.proofs.lemmas.List.Elements.{All-get_or, All-weaker, All-append, All-take, All-drop, All-nil, All-cons, All-head, All-tail}
 use Rattle.std.proofs.lemmas.List.{nil_from_length, map-append, get_or_append_left, get_or-append_right, get_or-append-add}
 use Rattle.std.proofs.lemmas.Bool.{cases_lt}
 use Rattle.node.specs.Cells.{Run}
@@ -115,11 +115,11 @@ module _ {K V : Type 0} where
   pub frame_all : (T T' : Tables K V) (h : ℕ) (ts : List (Tree (K × V))) → length T'.heads ≡ length T.heads
       → ((x : ℕ) → 0 < total (occurs x h) ts → SameBody T T' x) → ((x : ℕ) → 0 < total (below x h) ts → SameLink T T' x)
       → All (Holds T h) ts → All (Holds T' h) ts
-  frame_all T T' h [] l f g w = tt
-  frame_all T T' h (t ∷ ts) l f g w = (
-    frame T T' h t l (λ x p. f x (omega arith)) (λ x p. g x (omega arith)) w.0,
-    frame_all T T' h ts l (λ x p. f x (omega arith)) (λ x p. g x (omega arith)) w.1,
-  )
+  frame_all T T' h [] l f g w = All-nil (Holds T' h)
+  frame_all T T' h (t ∷ ts) l f g w =
+      All-cons (Holds T' h) t ts
+      (frame T T' h t l (λ x p. f x (omega arith)) (λ x p. g x (omega arith)) (All-head (Holds T h) t ts w))
+      (frame_all T T' h ts l (λ x p. f x (omega arith)) (λ x p. g x (omega arith)) (All-tail (Holds T h) t ts w))
 
   -- ---- after a change elsewhere
 
@@ -170,7 +170,7 @@ module _ {K V : Type 0} where
       (subst (λ ns. Linked T' (number t) 0 ns) (sym same_numbers) (linked_kept T T' bs ls (number t) 0 (numbers t) c tops (holds_linked T h t w)))
       (All-append (Holds T' h) ks (k ∷ ms)
       (all_kept T T' bs ls h ks c (λ x p. f x (omega arith)) (λ x p. g x (omega arith)) (All-take (Holds T h) i (kids t) all))
-      (v, all_kept T T' bs ls h ms c (λ x p. f x (omega arith)) (λ x p. g x (omega arith)) (All-drop (Holds T h) (suc i) (kids t) all)))
+      (All-cons (Holds T' h) k ms v (all_kept T T' bs ls h ms c (λ x p. f x (omega arith)) (λ x p. g x (omega arith)) (All-drop (Holds T h) (suc i) (kids t) all))))
 
   -- ---- numbers in the table
 

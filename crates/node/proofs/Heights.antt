@@ -1,5 +1,5 @@
 -- How many entries and nodes a formed tree has at least. Assumes nothing.
-use Rattle.std.proofs.Common.{ℕ, zero, suc, ◌+◌, ◌*◌, ◌^◌, ◌<◌, ◌≤◌, map, length, All, ◌∙◌, le_trans, mul-le-mul_right, arith}
+use Rattle.std.proofs.Common.{ℕ, zero, suc, ◌+◌, ◌*◌, ◌^◌, ◌≤◌, map, length, All, ◌∙◌, le_trans, mul-le-mul_right, arith}
 use lib.ListN.{length-map}
 use Rattle.std.proofs.lemmas.List.Elements.{All-map, All-weaker}
 use Rattle.node.specs.Shape.{Tree, row, kids, flat, weave, weigh, total, Within}

@@ -1,15 +1,15 @@
 -- An entry put into a node that has room. Assumes nothing.
-use Rattle.std.proofs.Common.{◌≡◌, ℕ, zero, suc, ◌+◌, ◌-◌, ◌*◌, ◌<◌, ◌≤◌, List, [], ◌∷◌, ◌++◌, map, length, get_or, take, drop, set, All, sym, refl, ap, ◌∙◌, subst, ap₂, append-nil, arith, length-append}
+use Rattle.std.proofs.Common.{◌≡◌, ℕ, ◌+◌, ◌-◌, ◌*◌, ◌<◌, List, [], ◌∷◌, ◌++◌, length, All, sym, ap, ◌∙◌, subst, arith, length-append}
 use Rattle.node.specs.declared.head.Head.{Head}
 use Rattle.node.specs.Cells.{span, Put, Run}
-use Rattle.node.specs.Store.{Tables, tables, Sized, Node, Linked, Changed, head_in, first, second, itself}
+use Rattle.node.specs.Store.{tables, Node, Linked, Changed, head_in, first, second, itself}
 use Rattle.node.specs.Links.{Adopted}
 use Rattle.node.specs.Operations.{Children}
 use Rattle.node.proofs.Spans.{span_len}
 use Rattle.std.proofs.lemmas.List.Elements.{All-weaker}
 use Rattle.node.proofs.Adopts.{times_append}
 use Rattle.node.proofs.Runs.{run_insert, edges_insert, edges_part}
-use Rattle.node.proofs.Tabled.{Rewritten, Relinked, Kept, rewritten_none, rewritten_set, refit, refit_same, relinked_none, relinked_adopted, kept_none, kept_put, changed_of, node_of, linked_of}
+use Rattle.node.proofs.Tabled.{Relinked, Kept, rewritten_none, rewritten_set, refit, refit_same, relinked_none, relinked_adopted, kept_none, kept_put, changed_of, node_of, linked_of}
 
 -- keys ks become ks', values vs become vs': an entry e between es and fs of node m, which has n entries
 module _ {K V : Type 0} (H : List Head) (ks ks' : List K) (vs vs' : List V) (m : ℕ) (es fs : List (K × V)) (e : K × V) (cs : List ℕ) (i n : ℕ)

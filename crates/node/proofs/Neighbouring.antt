@@ -1,8 +1,8 @@
 -- Two neighbours among the children of a node. Assumes nothing.
-use Rattle.std.proofs.Common.{◌≡◌, ℕ, zero, suc, ◌+◌, ◌-◌, ◌*◌, ◌<◌, ◌≤◌, ◌⊎◌, List, [], ◌∷◌, ◌++◌, length, get_or, sym, refl, ap, ◌∙◌, subst, ⊎_elim, arith, length-append}
+use Rattle.std.proofs.Common.{◌≡◌, ℕ, ◌+◌, ◌≤◌, ◌⊎◌, List, ◌∷◌, ◌++◌, length, get_or, sym, ap, ◌∙◌, subst, ⊎_elim, arith, length-append}
 use Rattle.node.specs.declared.rows.Pair.{Pair}
-use Rattle.node.specs.Store.{Tables, Sized, Node, head_at}
-use Rattle.node.specs.Operations.{Pairs, Lies, Strange}
+use Rattle.node.specs.Store.{Tables, Sized, head_at}
+use Rattle.node.specs.Operations.{Pairs, Strange}
 use Rattle.node.proofs.Runs.{edge_is}
 use Rattle.node.proofs.Tabled.{not_strange}
 

@@ -1,7 +1,7 @@
 -- The entries under a node, counted child by child. Assumes nothing.
-use Rattle.std.proofs.Common.{◌≡◌, ℕ, zero, suc, ◌+◌, ◌-◌, ◌*◌, ◌<◌, ◌≤◌, List, [], ◌∷◌, ◌++◌, map, length, get_or, take, drop, All, sym, refl, ap, ◌∙◌, subst, mul-le-mul_right, arith, length-take}
+use Rattle.std.proofs.Common.{◌≡◌, ℕ, zero, suc, ◌+◌, ◌-◌, ◌*◌, ◌<◌, ◌≤◌, List, [], ◌∷◌, map, length, take, All, sym, refl, ap, ◌∙◌, subst, mul-le-mul_right, arith, length-take}
 use lib.ListN.{length-map}
-use Rattle.std.proofs.lemmas.List.Elements.{All-get_or, All-push, All-weaker, All-map}
+use Rattle.std.proofs.lemmas.List.Elements.{All-get_or, All-push, All-weaker, All-map, All-nil}
 use Rattle.std.proofs.lemmas.List.{take_more, get_or-take}
 use Rattle.node.specs.declared.head.Head.{Head}
 use Rattle.node.specs.Shape.{Tree, number, row, kids, flat, weave, total}
@@ -84,7 +84,7 @@ pub record Summed (H : List Head) (h m i n : ℕ) : Type 0 where
 
 module _ (H : List Head) (h m : ℕ) where
   pub summed_none : Summed H h m 0 (head_in H m).len
-  summed_none = record { reached = tt; sum_is = omega arith }
+  summed_none = record { reached = All-nil (Reached H h); sum_is = omega arith }
 
   pub summed_more : (i n k : ℕ) → Summed H h m i n → i < length (head_in H m).edges → Counted H h (edge H m i) k → Summed H h m (i + 1) (n + k)
   summed_more i n k w l c =

@@ -1,8 +1,8 @@
 -- Sorted lists, and what a query parts. Assumes nothing.
-use Rattle.std.proofs.Common.{◌≡◌, ℕ, suc, Bool, true, false, cond, ◌⊎◌, List, [], ◌∷◌, take, drop, All, sym, refl, ap, ◌∙◌, subst, inl, inr, ⊎_elim}
-use Rattle.std.proofs.lemmas.List.Elements.{All-weaker}
+use Rattle.std.proofs.Common.{◌≡◌, ℕ, suc, true, false, cond, [], ◌∷◌, take, drop, All, sym, ap, subst, ⊎_elim}
+use Rattle.std.proofs.lemmas.List.Elements.{All-weaker, All-nil, All-cons}
 use Rattle.std.proofs.lemmas.Bool.{cases_Bool, both_ways}
-use Rattle.node.specs.Sorted.{Rising, SortedRises, IndexParts, index}
+use Rattle.node.specs.Sorted.{SortedRises, IndexParts, index}
 
 pub sorted_rises : {E : Type 0} → SortedRises E
 sorted_rises le b down [] s = tt
@@ -13,11 +13,11 @@ sorted_rises le b down (x ∷ xs) s = (
 )
 
 pub index_parts : {E : Type 0} → IndexParts E
-index_parts b [] r = (tt, tt)
+index_parts b [] r = (All-nil (λ y. b y ≡ true), All-nil (λ y. b y ≡ false))
 index_parts {E} b (x ∷ xs) r =
     ⊎_elim
-    (λ (p : b x ≡ true). let s = index_parts b xs r.1 in subst At (sym (ap (λ c. cond c (suc (index b xs)) 0) p)) ((p, s.0), s.1))
-    (λ (p : b x ≡ false). subst At (sym (ap (λ c. cond c (suc (index b xs)) 0) p)) (tt, (p, r.0 p)))
+    (λ (p : b x ≡ true). let s = index_parts b xs r.1 in subst At (sym (ap (λ c. cond c (suc (index b xs)) 0) p)) (All-cons (λ y. b y ≡ true) x (take (index b xs) xs) p s.0, s.1))
+    (λ (p : b x ≡ false). subst At (sym (ap (λ c. cond c (suc (index b xs)) 0) p)) (All-nil (λ y. b y ≡ true), All-cons (λ y. b y ≡ false) x xs p (r.0 p)))
     (cases_Bool (b x))
   where
     At : ℕ → Type 0

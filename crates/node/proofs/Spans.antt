@@ -1,9 +1,8 @@
 -- Laws of stretches of a table. Assumes nothing.
-use Rattle.std.proofs.Common.{◌≡◌, ℕ, zero, suc, ◌+◌, ◌-◌, ◌*◌, ◌<◌, ◌≤◌, min, ◌⊎◌, List, [], ◌∷◌, ◌++◌, map, length, get_or, take, drop, set, sym, refl, ap, ◌∙◌, subst, ap₂, inl, inr, ⊎_elim, append_assoc, add-zero, arith, length-append, length-drop, length-set, length-take, get_or-drop, get_or-set_other, get_or-take, get_or-set_same, take-take}
-use lib.ListN.{length-map}
-use Rattle.std.proofs.lemmas.List.{same_lists, get_or_read, get_or_default, length-take-le, take_at, drop_at, map-append, get_or_append_left, get_or-append_right, drop-drop}
-use Rattle.std.proofs.lemmas.Bool.{cases_lt, cases_eq}
-use Rattle.node.specs.Cells.{span, Put, Run}
+use Rattle.std.proofs.Common.{◌≡◌, ℕ, ◌+◌, ◌-◌, ◌<◌, ◌≤◌, min, List, [], ◌∷◌, ◌++◌, length, get_or, take, drop, set, sym, refl, ap, ◌∙◌, subst, ap₂, ⊎_elim, add-zero, arith, length-append, length-drop, length-set, length-take, get_or-drop, get_or-set_other, get_or-take, get_or-set_same}
+use Rattle.std.proofs.lemmas.List.{same_lists, get_or_read, get_or_default, length-take-le, take_at, drop_at, get_or_append_left, get_or-append_right, drop-drop}
+use Rattle.std.proofs.lemmas.Bool.{cases_lt}
+use Rattle.node.specs.Cells.{span, Put}
 
 module _ {X : Type 0} where
   pub span_at : (xs : List X) (a n k : ℕ) (d : X) → k < n → get_or (span xs a n) k d ≡ get_or xs (a + k) d

@@ -1,13 +1,12 @@
 -- Entries that go over between two neighbours, through the entry between them. Assumes nothing.
-use Rattle.std.proofs.Common.{◌≡◌, ℕ, zero, suc, ◌+◌, ◌-◌, ◌*◌, ◌<◌, ◌≤◌, List, [], ◌∷◌, ◌++◌, map, length, get_or, All, sym, refl, ap, ◌∙◌, subst, ap₂, ⊎_elim, arith, length-append}
+use Rattle.std.proofs.Common.{◌≡◌, ℕ, ◌+◌, ◌-◌, ◌*◌, ◌<◌, ◌≤◌, List, [], ◌∷◌, ◌++◌, length, All, sym, refl, ap, ◌∙◌, subst, ap₂, ⊎_elim, arith, length-append}
 use Rattle.std.proofs.lemmas.Bool.{cases_lt}
 use Rattle.std.proofs.lemmas.List.Elements.{All-weaker}
-use Rattle.std.proofs.lemmas.List.{append_assoc, nil_from_length}
 use Rattle.node.specs.declared.head.Head.{Head}
 use Rattle.node.specs.declared.rows.Pair.{Pair}
 use Rattle.node.specs.Cells.{span, Put, Run}
 use Rattle.node.specs.Rows.{StolenLeft, StolenRight}
-use Rattle.node.specs.Store.{Tables, tables, Sized, Node, Link, Linked, Changed, Once, head_in, first, second, itself, times}
+use Rattle.node.specs.Store.{tables, Node, Linked, Changed, head_in, first, second, itself, times}
 use Rattle.node.specs.Links.{Adopted}
 use Rattle.node.specs.Operations.{Pairs, Children, Fan}
 use Rattle.node.proofs.Adopts.{times_append, times_one, all_front, all_back}

@@ -1,13 +1,12 @@
 -- Nodes in the tables after a change: heads are rewritten first, links are corrected after that, and cells are written beside. Assumes nothing.
-use Rattle.std.proofs.Common.{◌≡◌, ℕ, zero, suc, ◌+◌, ◌-◌, ◌*◌, ◌<◌, ◌≤◌, Bool, true, false, ◌⊎◌, List, [], ◌∷◌, ◌++◌, map, length, get_or, take, drop, set, is_ok, Ok, Err, Result, sym, refl, ap, ◌∙◌, subst, ap₂, inl, inr, ⊎_elim, arith, length-append, length-set}
+use Rattle.std.proofs.Common.{◌≡◌, ℕ, ◌+◌, ◌*◌, ◌<◌, ◌≤◌, true, List, [], ◌∷◌, ◌++◌, length, get_or, set, is_ok, Ok, Err, Result, sym, refl, ap, ◌∙◌, subst, ⊎_elim, arith, length-set}
 use Rattle.std.proofs.lemmas.List.{get_or-set_same, get_or-set_other}
 use Rattle.std.proofs.lemmas.Bool.{cases_lt}
 use Rattle.node.specs.declared.head.Head.{Head}
 use Rattle.node.specs.Cells.{span, Put, Run}
-use Rattle.node.specs.Store.{Tables, tables, Sized, Node, Link, Linked, SameBody, SameLink, Changed, Once, head_in, head_at, no_head, times, first, second, itself}
+use Rattle.node.specs.Store.{Tables, tables, Sized, Node, Link, Linked, Changed, Once, head_in, no_head, times, first, second, itself}
 use Rattle.node.specs.Links.{Adopted}
-use Rattle.node.specs.Operations.{Lies, Strange, Fan}
-use Rattle.node.proofs.Spans.{span_len}
+use Rattle.node.specs.Operations.{Strange, Fan}
 use Rattle.node.proofs.Adopts.{times_one, times_append, times_at, kept_by_set}
 use Rattle.node.proofs.Runs.{put_others}
 

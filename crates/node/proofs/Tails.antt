@@ -1,17 +1,17 @@
 -- The back part of a node moved to another. Assumes nothing.
-use Rattle.std.proofs.Common.{◌≡◌, ℕ, zero, suc, ◌+◌, ◌-◌, ◌*◌, ◌<◌, ◌≤◌, max, ◌⊎◌, List, [], ◌∷◌, ◌++◌, map, length, get_or, set, All, sym, refl, ap, ◌∙◌, subst, ap₂, inl, inr, ⊎_elim, arith, length-append}
+use Rattle.std.proofs.Common.{◌≡◌, ℕ, ◌+◌, ◌-◌, ◌*◌, ◌<◌, ◌≤◌, ◌⊎◌, List, [], ◌∷◌, ◌++◌, length, All, sym, refl, ap, ◌∙◌, subst, inl, inr, ⊎_elim, arith, length-append}
 use Rattle.std.proofs.lemmas.List.Elements.{All-weaker}
 use Rattle.std.proofs.lemmas.List.{nil_from_length}
 use Rattle.std.proofs.lemmas.Bool.{cases_lt}
 use Rattle.node.specs.declared.head.Head.{Head}
 use Rattle.node.specs.Cells.{span, Put, Run}
-use Rattle.node.specs.Store.{Tables, tables, Sized, Node, Linked, Changed, head_in, first, second, itself}
+use Rattle.node.specs.Store.{tables, Node, Linked, Changed, head_in, first, second, itself}
 use Rattle.node.specs.Links.{Adopted}
 use Rattle.node.specs.Operations.{Children, Fan}
 use Rattle.node.proofs.Spans.{span_len}
 use Rattle.node.proofs.Adopts.{times_append}
 use Rattle.node.proofs.Runs.{run_parts, run_append, run_before, run_tail, put_run, edges_part, itself_map}
-use Rattle.node.proofs.Tabled.{Rewritten, Relinked, Kept, rewritten_none, rewritten_set, refit, refit_same, refit_other, relinked_none, relinked_adopted, kept_none, kept_put, kept_as, changed_of, node_of, linked_of}
+use Rattle.node.proofs.Tabled.{Rewritten, Kept, rewritten_none, rewritten_set, refit, refit_same, refit_other, relinked_none, relinked_adopted, kept_none, kept_put, kept_as, changed_of, node_of, linked_of}
 
 -- node m, with c + i + s entries, keeps i of them, passes over s and gives c to node n; the edges of n become edges
 module _ {K V : Type 0} (H : List Head) (ks ks' : List K) (vs vs' : List V) (h m n i s c : ℕ) (es gs fs : List (K × V)) (as' ls cs : List ℕ)

@@ -1,9 +1,9 @@
 -- Entries woven between lists, and sums over lists. Assumes nothing.
-use Rattle.std.proofs.Common.{◌≡◌, ℕ, zero, suc, ◌+◌, ◌*◌, ◌<◌, ◌≤◌, ◌⊎◌, List, [], ◌∷◌, ◌++◌, map, length, get_or, take, drop, All, sym, refl, ap, ◌∙◌, inl, inr, ⊎_elim, append_assoc, append-nil, arith, length-append}
+use Rattle.std.proofs.Common.{◌≡◌, ℕ, zero, suc, ◌+◌, ◌*◌, ◌<◌, ◌≤◌, List, [], ◌∷◌, ◌++◌, map, length, get_or, take, drop, All, sym, refl, ap, ◌∙◌, ⊎_elim, append_assoc, append-nil, arith, length-append}
 use lib.Seq.{split_at}
-use Rattle.std.proofs.lemmas.List.Elements.{All-weaker}
+use Rattle.std.proofs.lemmas.List.Elements.{All-tail}
 use Rattle.std.proofs.lemmas.Bool.{cases_lt}
-use Rattle.node.specs.Shape.{Tree, Forest, trees, forest, weave, before, after, total}
+use Rattle.node.specs.Shape.{Tree, trees, forest, weave, before, after, total}
 
 pub trees_forest : {E : Type 0} (ts : List (Tree E)) → trees (forest ts) ≡ ts
 trees_forest [] = refl
@@ -12,9 +12,9 @@ trees_forest (t ∷ ts) = ap (λ r. t ∷ r) (trees_forest ts)
 module _ {E : Type 0} where
   pub weave_long : (c : ℕ) (ls : List (List E)) (es : List E) → length ls ≡ suc (length es) → All (λ l. c ≤ length l + 1) ls → length ls * c ≤ length (weave ls es) + 1
   weave_long c [] es q a = absurd (omega arith)
-  weave_long c (l ∷ []) [] q a = omega (arith, a.0)
+  weave_long c (l ∷ []) [] q a = omega (arith, a 0 l (omega arith))
   weave_long c (l ∷ (k ∷ ls)) [] q a = absurd (omega arith)
-  weave_long c (l ∷ ls) (e ∷ es) q a = simp length-append (omega (arith, weave_long c ls es (omega arith) a.1, a.0))
+  weave_long c (l ∷ ls) (e ∷ es) q a = simp length-append (omega (arith, weave_long c ls es (omega arith) (All-tail (λ k. c ≤ length k + 1) l ls a), a 0 l (omega arith)))
 
   pub weave_size : (ls : List (List E)) (es : List E) → length ls ≡ suc (length es) → length (weave ls es) ≡ length es + total length ls
   weave_size [] es q = absurd (omega arith)
@@ -72,21 +72,21 @@ module _ {X : Type 0} (f : X → ℕ) where
 
   pub total_none : (xs : List X) → All (λ x. f x ≡ 0) xs → total f xs ≡ 0
   total_none [] a = refl
-  total_none (x ∷ xs) a = omega (arith, a.0, total_none xs a.1)
+  total_none (x ∷ xs) a = omega (arith, a 0 x (omega arith), total_none xs (All-tail (λ y. f y ≡ 0) x xs a))
 
   -- a sum above 0 has a term above 0
   pub total_some : (P : Type 0) (xs : List X) → All (λ x. 0 < f x → P) xs → 0 < total f xs → P
   total_some P [] a l = absurd (omega arith)
-  total_some P (x ∷ xs) a l = ⊎_elim (λ (p : 0 < f x). a.0 p) (λ (p : f x ≤ 0). total_some P xs a.1 (omega arith)) (cases_lt 0 (f x))
+  total_some P (x ∷ xs) a l = ⊎_elim (λ (p : 0 < f x). a 0 x (omega arith) p) (λ (p : f x ≤ 0). total_some P xs (All-tail (λ y. 0 < f y → P) x xs a) (omega arith)) (cases_lt 0 (f x))
 
   -- bounds on each term
   pub total_least : (c : ℕ) (xs : List X) → All (λ x. c ≤ f x) xs → length xs * c ≤ total f xs
   total_least c [] a = omega arith
-  total_least c (x ∷ xs) a = omega (arith, a.0, total_least c xs a.1)
+  total_least c (x ∷ xs) a = omega (arith, a 0 x (omega arith), total_least c xs (All-tail (λ y. c ≤ f y) x xs a))
 
   pub total_most : (c : ℕ) (xs : List X) → All (λ x. f x ≤ c) xs → total f xs ≤ length xs * c
   total_most c [] a = omega arith
-  total_most c (x ∷ xs) a = omega (arith, a.0, total_most c xs a.1)
+  total_most c (x ∷ xs) a = omega (arith, a 0 x (omega arith), total_most c xs (All-tail (λ y. f y ≤ c) x xs a))
 
   pub total_map : {Y : Type 0} (g : Y → X) (ys : List Y) → total f (map g ys) ≡ total (λ y. f (g y)) ys
   total_map g [] = refl
@@ -95,11 +95,11 @@ module _ {X : Type 0} (f : X → ℕ) where
 module _ {X : Type 0} (f g : X → ℕ) where
   pub total_same : (xs : List X) → All (λ x. f x ≡ g x) xs → total f xs ≡ total g xs
   total_same [] a = refl
-  total_same (x ∷ xs) a = omega (arith, a.0, total_same xs a.1)
+  total_same (x ∷ xs) a = omega (arith, a 0 x (omega arith), total_same xs (All-tail (λ y. f y ≡ g y) x xs a))
 
   pub total_le : (xs : List X) → All (λ x. f x ≤ g x) xs → total f xs ≤ total g xs
   total_le [] a = omega arith
-  total_le (x ∷ xs) a = omega (arith, a.0, total_le xs a.1)
+  total_le (x ∷ xs) a = omega (arith, a 0 x (omega arith), total_le xs (All-tail (λ y. f y ≤ g y) x xs a))
 
   pub total_add : (xs : List X) → total (λ x. f x + g x) xs ≡ total f xs + total g xs
   total_add [] = refl
@@ -107,18 +107,12 @@ module _ {X : Type 0} (f g : X → ℕ) where
 
 module _ {X : Type 0} where
   pub all_of : {P : X → Type 0} → ((x : X) → P x) → (xs : List X) → All P xs
-  all_of f [] = tt
-  all_of f (x ∷ xs) = (f x, all_of f xs)
+  all_of f xs = λ k d l. f (get_or xs k d)
 
   -- from two facts of each element a third
   pub all_both : (P Q R : X → Type 0) → ((x : X) → P x → Q x → R x) → (xs : List X) → All P xs → All Q xs → All R xs
-  all_both P Q R f [] a b = tt
-  all_both P Q R f (x ∷ xs) a b = (f x a.0 b.0, all_both P Q R f xs a.1 b.1)
+  all_both P Q R f xs a b = λ k d l. f (get_or xs k d) (a k d l) (b k d l)
 
   -- each element's weights are at most the sums
   pub total_each : (f : ℕ → X → ℕ) (xs : List X) → All (λ x. (n : ℕ) → f n x ≤ total (f n) xs) xs
-  total_each f [] = tt
-  total_each f (x ∷ xs) = (
-    (λ n. omega arith),
-    All-weaker (λ y. (n : ℕ) → f n y ≤ total (f n) xs) (λ y. (n : ℕ) → f n y ≤ total (f n) (x ∷ xs)) (λ y g n. omega (arith, g n)) xs (total_each f xs),
-  )
+  total_each f xs = λ k d l n. total_at (f n) xs k d l

@@ -7,7 +7,7 @@
 --   nodes h t      how many nodes there are
 --   fewest h       the least number of nodes in a formed tree of height h that is not a root
 use Rattle.std.specs.Prelude.{◌≡◌, ℕ, zero, suc, ◌+◌, ◌*◌, ◌^◌, ◌<◌, ◌≤◌, cond, List, length, ◌==◌}
-use Rattle.node.specs.Shape.{Tree, number, row, kids, flat, weigh, total, Formed}
+use Rattle.node.specs.Shape.{Tree, number, kids, flat, weigh, total, Formed}
 use Rattle.node.specs.declared.ends.Side.{Side}
 use Rattle.node.specs.Counts.{Counted}
 use Rattle.node.specs.Ends.{Chain, end_edge, tree_edge}

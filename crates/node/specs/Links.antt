@@ -2,7 +2,7 @@
 --   edge H m i            edge i of node m
 --   relink H p i c        node c with parent p and place i
 --   Adopted H H' p i cs   the nodes cs have p for a parent, and their places from i on; nothing else has changed
-use Rattle.std.specs.Prelude.{◌≡◌, ℕ, ◌+◌, ◌<◌, ◌≤◌, List, length, slice_index, slice_set}
+use Rattle.std.specs.Prelude.{◌≡◌, ℕ, ◌+◌, ◌<◌, List, length, slice_index, slice_set}
 use Rattle.node.specs.declared.head.Head.{Head}
 use Rattle.node.specs.Store.{head_in, times, Once}
 

@@ -1,10 +1,10 @@
 -- Two neighbours among the children of a node, as the code names them.
 --   Paired T p i q      q names node p, its entry at index i, and the two children beside it, with the lengths that stand in the tables
 --   PairedOf T p i r    where the tables hold such a parent and two children, r answers them
-use Rattle.std.specs.Prelude.{◌≡◌, ℕ, ◌+◌, ◌<◌, ◌≤◌, List, ◌∷◌, ◌++◌, length, get_or, Ok, Result}
+use Rattle.std.specs.Prelude.{◌≡◌, ℕ, ◌<◌, List, ◌∷◌, ◌++◌, length, Ok, Result}
 use Rattle.supply.specs.declared.faults.Fault.{Fault}
 use Rattle.node.specs.declared.rows.Pair.{Pair}
-use Rattle.node.specs.Store.{Tables, Sized, head_at}
+use Rattle.node.specs.Store.{Tables, Sized}
 use Rattle.node.specs.Operations.{Lies, Pairs}
 
 pub record Paired {K V : Type 0} (T : Tables K V) (p i : ℕ) (q : Pair) : Type 0 where

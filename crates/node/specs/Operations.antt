@@ -7,7 +7,7 @@
 use Rattle.std.specs.Prelude.{◌≡◌, ℕ, ◌+◌, ◌-◌, ◌<◌, ◌≤◌, Bool, List, [], ◌∷◌, ◌++◌, length, Ok, All, Result, ◌≢◌, nat_le}
 use Rattle.supply.specs.declared.faults.Fault.{Fault}
 use Rattle.node.specs.Cells.{Run}
-use Rattle.node.specs.Store.{Tables, Sized, Node, Link, Linked, Changed, Once, head_at, itself}
+use Rattle.node.specs.Store.{Tables, Sized, Node, Linked, Changed, Once, head_at, itself}
 
 pub record Lies {K V : Type 0} (T : Tables K V) (m n : ℕ) : Type 0 where
   pub sized : Sized T

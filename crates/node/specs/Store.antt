@@ -10,7 +10,7 @@
 use Rattle.std.specs.Prelude.{◌≡◌, ℕ, zero, suc, ◌+◌, ◌*◌, ◌<◌, ◌≤◌, cond, List, [], ◌∷◌, map, length, All, ◌==◌, slice_index, slice_index_or}
 use Rattle.node.specs.declared.head.Head.{Head}
 use Rattle.node.specs.Cells.{span, Run}
-use Rattle.node.specs.Shape.{Tree, number, row, kids, fan_out}
+use Rattle.node.specs.Shape.{Tree, number, row, kids}
 
 pub record Tables (K V : Type 0) : Type 0 where
   pub heads : List Head

@@ -1,8 +1,8 @@
-use Rattle.std.proofs.Common.{◌≡◌, ℕ, ◌+◌, ◌-◌, ◌<◌, ◌≤◌, length, sym, refl, ap, ◌∙◌, subst, arith}
+use Rattle.std.proofs.Common.{◌≡◌, ◌+◌, ◌-◌, ◌<◌, ◌≤◌, length, sym, subst, arith}
 use Rattle.std.proofs.lemmas.Result.{MatchResult-from_err}
 use Rattle.node.specs.Store.{head_in}
 use Rattle.node.specs.Counts.{Reached, Counted}
-use Rattle.node.proofs.Recounts.{Summed, reached_stands, reached_kid, counted_leaf, summed_none, summed_more, summed_small, summed_all}
+use Rattle.node.proofs.Recounts.{Summed, reached_stands, reached_kid, counted_leaf, summed_more, summed_small, summed_all}
 use Rattle.node.proofs.count.+dfs.Goals as goal
 
 pub returns-in_err-len : goal.returns-in_err-len

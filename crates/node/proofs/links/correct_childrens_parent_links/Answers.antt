@@ -1,4 +1,4 @@
-use Rattle.std.proofs.Common.{◌≡◌, ℕ, ◌+◌, ◌-◌, sym, refl, ap, ◌∙◌, subst, arith}
+use Rattle.std.proofs.Common.{◌≡◌, ◌+◌, ◌-◌, sym, refl, subst, arith}
 use Rattle.std.proofs.lemmas.Result.{IfOk-from_err}
 use Rattle.node.specs.Store.{head_in}
 use Rattle.node.specs.Cells.{span}
@@ -26,13 +26,13 @@ returns-in_err-correct_parent_link c =
       done = IfOk-from_err c.from_residual.result _ c.from_residual.ensures.0;
       total = λ all.
           absurd (adopted_not c.args.heads.now c.loop-edge.heads c.args.node c.args.first c.loop-edge.edge c.loop-edge.invariant (omega arith) st.wide (omega arith)
-          c.args.after-last (omega arith) (omega arith) st.cases all);
+          c.args.after_last (omega arith) (omega arith) st.cases all);
     }
 
 pub returns : goal.returns
 returns c =
     let H = c.args.heads.now in
-    let z : c.loop-edge.edge ≡ c.args.after-last = omega arith in
+    let z : c.loop-edge.edge ≡ c.args.after_last = omega arith in
     record {
       done = subst (λ n. Adopted H c.loop-edge.heads c.args.node c.args.first (span (head_in H c.args.node).edges c.args.first (n - c.args.first))) z c.loop-edge.invariant;
       total = λ all. refl;

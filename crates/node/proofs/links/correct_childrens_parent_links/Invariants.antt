@@ -1,4 +1,4 @@
-use Rattle.std.proofs.Common.{◌≡◌, ◌-◌, ◌≤◌, length}
+use Rattle.std.proofs.Common.{◌-◌}
 use Rattle.node.specs.Store.{head_in}
 use Rattle.node.specs.Cells.{span}
 use Rattle.node.specs.Links.{Adopted}

@@ -1,8 +1,7 @@
-use Rattle.std.proofs.Common.{◌≡◌, ◌+◌, leb, Ok, Err, sym, ap, ◌∙◌}
+use Rattle.std.proofs.Common.{◌+◌, leb, Ok, ap}
 use Rattle.node.specs.Operations.{CanMerge}
 use Rattle.node.specs.Neighbours.{PairedOf}
 use Rattle.node.proofs.Tabled.{err_not_ok, ok_same}
-use Rattle.node.proofs.Merging.{merged}
 use Rattle.node.proofs.nodes.Internal.can_merge.Goals as goal
 
 pub returns-in_err-pair : goal.returns-in_err-pair

@@ -1,7 +1,6 @@
-use Rattle.std.proofs.Common.{◌≡◌, ℕ, ◌+◌, ◌-◌, sym, refl, ap, ◌∙◌, subst, true≢false, arith}
-use Rattle.std.proofs.lemmas.Result.{IfOk-at_ok}
+use Rattle.std.proofs.Common.{◌+◌, ◌-◌, sym, ap, true≢false, arith}
 use Rattle.node.specs.declared.rows.Pair.{Pair}
-use Rattle.node.specs.Operations.{Merges, Fan}
+use Rattle.node.specs.Operations.{Merges}
 use Rattle.node.specs.Neighbours.{PairedOf}
 use Rattle.node.proofs.Tabled.{err_not_ok, ok_same, fan_at}
 use Rattle.node.proofs.Merging.{pair_inside_p, pair_inside_l, pair_merged}

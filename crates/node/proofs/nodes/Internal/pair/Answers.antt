@@ -1,7 +1,7 @@
-use Rattle.std.proofs.Common.{◌≡◌, Ok, sym, refl, ap, ◌∙◌, subst, ⊎_elim, arith}
+use Rattle.std.proofs.Common.{Ok, refl, ap}
 use Rattle.std.proofs.lemmas.Result.{IfOk-from_err}
 use Rattle.node.specs.Store.{tables}
-use Rattle.node.specs.Neighbours.{PairedOf, Paired}
+use Rattle.node.specs.Neighbours.{PairedOf}
 use Rattle.node.proofs.Neighbouring.{parent_lies, index_within, left_lies, right_lies, all_differ, pair_is}
 use Rattle.node.proofs.nodes.Internal.pair.Goals as goal
 

@@ -1,4 +1,4 @@
-use Rattle.std.proofs.Common.{◌≡◌, ℕ, ◌+◌, ◌<◌, List, [], ◌∷◌, ◌++◌, length, sym, refl, ap, ◌∙◌, ap₂, arith, length-append}
+use Rattle.std.proofs.Common.{[], ◌++◌, length, refl, arith, length-append}
 use Rattle.node.specs.Store.{tables}
 use Rattle.node.specs.Operations.{MovesSuffix, MovesTail, Fan}
 use Rattle.node.proofs.Tabled.{not_strange}

@@ -1,6 +1,6 @@
-use Rattle.std.proofs.Common.{◌≡◌, ℕ, ◌+◌, ◌<◌, List, [], ◌∷◌, length, Ok, Err, sym, refl, ap, ◌∙◌, ap₂, arith, length-append}
-use Rattle.node.specs.Store.{tables, first, second, head_in}
-use Rattle.node.specs.Operations.{Splits, MovesTail, Fan}
+use Rattle.std.proofs.Common.{[], ◌∷◌, Ok, refl, ap₂, arith, length-append}
+use Rattle.node.specs.Store.{tables, first, second}
+use Rattle.node.specs.Operations.{Splits, MovesTail}
 use Rattle.node.proofs.Runs.{run_at}
 use Rattle.node.proofs.Tabled.{not_strange, err_not_ok}
 use Rattle.node.proofs.nodes.NodeRef.split.Goals as goal

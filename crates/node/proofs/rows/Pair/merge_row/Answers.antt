@@ -1,4 +1,3 @@
-use Rattle.std.proofs.Common.{arith}
 use Rattle.node.proofs.Rowed.{merged_row}
 use Rattle.node.proofs.rows.Pair.merge_row.Goals as goal
 
