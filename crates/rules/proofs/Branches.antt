@@ -1,17 +1,13 @@
 -- Nodes with their children in the tables, before and after a change. Assumes nothing.
-use Rattle.std.proofs.Common.{◌≡◌, ℕ, zero, suc, ◌+◌, ◌-◌, ◌<◌, ◌≤◌, ◌⊎◌, List, [], ◌∷◌, ◌++◌, map, length, All, sym, refl, ap, ◌∙◌, subst, ⊎_elim, sub-one, arith, length-append}
+use Rattle.std.proofs.Common.{◌≡◌, ℕ, zero, suc, ◌+◌, ◌-◌, ◌<◌, ◌≤◌, List, [], ◌∷◌, map, length, All, sym, refl, ap, ◌∙◌, subst, arith}
 use lib.ListN.{length-map}
-use Rattle.std.proofs.lemmas.List.{nil_from_length, map-append}
-use Rattle.std.proofs.lemmas.List.Elements.{All-weaker, All-append}
-use Rattle.std.proofs.lemmas.Bool.{cases_lt}
-use Rattle.supply.specs.Stocks.{Stock}
+use Rattle.std.proofs.lemmas.List.{nil_from_length}
+use Rattle.std.proofs.lemmas.List.Elements.{All-nil, All-cons, All-head, All-tail}
 use Rattle.node.specs.Shape.{Tree, number, row, kids, mk, total, weigh}
-use Rattle.node.specs.Store.{Tables, Node, Linked, Changed, Holds, numbers, times}
-use Rattle.node.specs.Operations.{Fan, Children}
+use Rattle.node.specs.Store.{Tables, Node, Holds, times}
+use Rattle.node.specs.Operations.{Children}
 use Rattle.node.specs.Laws.{occurs, below, same}
-use Rattle.node.specs.Balance.{mark, Beside}
-use Rattle.node.proofs.Adopts.{times_append}
-use Rattle.node.proofs.Frames.{height_suc, holds_node, holds_leaf, holds_fan, holds_linked, holds_kids, holds_from, holds_from_leaf, all_kept}
+use Rattle.node.proofs.Frames.{holds_node, holds_leaf, holds_fan, holds_linked, holds_kids, holds_from, holds_from_leaf}
 use Rattle.node.proofs.Numbers.{occurs_parts, occurs_mk, tops_occur}
 use Rattle.node.proofs.Weaves.{trees_forest}
 use Rattle.rules.specs.Held.{Held, HeldStands}
@@ -22,7 +18,7 @@ module _ {K V : Type 0} where
     body = holds_node T zero t w;
     fan = record { leaf = λ z. none; inner = λ z. absurd (omega arith) };
     linked = λ j l. absurd (omega (arith, length-map (kids t) number, none));
-    all = subst (λ ts. All (Holds T (0 - 1)) ts) (sym (nil_from_length (kids t) none)) tt;
+    all = subst (λ ts. All (Holds T (0 - 1)) ts) (sym (nil_from_length (kids t) none)) (All-nil (Holds T (0 - 1)));
   }
     where
       none : length (kids t) ≡ 0
@@ -60,8 +56,9 @@ module _ {E : Type 0} where
 
 module _ {K V : Type 0} where
   pub tops_inside : (T : Tables K V) (h : ℕ) (ts : List (Tree (K × V))) → All (Holds T h) ts → All (λ x. x < length T.heads) (map number ts)
-  tops_inside T h [] a = tt
-  tops_inside T h (t ∷ ts) a = ((holds_node T h t a.0).inside, tops_inside T h ts a.1)
+  tops_inside T h [] a = All-nil (λ x. x < length T.heads)
+  tops_inside T h (t ∷ ts) a =
+      All-cons (λ x. x < length T.heads) (number t) (map number ts) (holds_node T h t (All-head (Holds T h) t ts a)).inside (tops_inside T h ts (All-tail (Holds T h) t ts a))
 
   -- children that are different nodes
   pub tops_children : (T : Tables K V) (h : ℕ) (ts : List (Tree (K × V))) → All (Holds T h) ts → ((x : ℕ) → total (occurs x h) ts ≤ 1) → Children T (map number ts)

@@ -1,5 +1,5 @@
 -- The top of a tree: a new root leaf, and a root put above another. Assumes nothing.
-use Rattle.std.proofs.Common.{◌≡◌, ℕ, zero, suc, ◌+◌, ◌<◌, ◌≤◌, List, [], ◌∷◌, length, take, set, sym, refl, ap, ◌∙◌, arith, length-set, get_or-set_other, get_or-set_same}
+use Rattle.std.proofs.Common.{◌≡◌, ℕ, zero, suc, ◌<◌, List, [], ◌∷◌, length, take, set, refl, ap, ◌∙◌, arith, length-set, get_or-set_other, get_or-set_same}
 use Rattle.node.specs.declared.head.Head.{Head}
 use Rattle.node.specs.Store.{tables, Node, Linked, Changed, head_in, no_head}
 use Rattle.node.specs.Balance.{Rooted}

@@ -1,12 +1,12 @@
 -- Nodes made by `mk`, and parted ones.
-use Rattle.std.proofs.Common.{◌≡◌, ℕ, zero, suc, ◌+◌, ◌-◌, ◌*◌, ◌<◌, ◌≤◌, min, List, [], ◌∷◌, ◌++◌, map, length, get_or, take, drop, All, sym, refl, ap, ◌∙◌, subst, append_assoc, arith, length-append, length-drop, take-append-drop, length-take, drop-cons}
+use Rattle.std.proofs.Common.{◌≡◌, ℕ, zero, suc, ◌+◌, ◌<◌, ◌≤◌, List, [], ◌∷◌, ◌++◌, map, length, take, drop, All, sym, refl, ap, ◌∙◌, append_assoc, arith, length-drop, take-append-drop, length-take}
 use lib.Seq.{split_at}
-use Rattle.std.proofs.lemmas.List.Elements.{All-take, All-drop, All-append, All-get_or, All-weaker}
+use Rattle.std.proofs.lemmas.List.Elements.{All-take, All-drop, All-append, All-get_or}
 use Rattle.std.proofs.lemmas.List.{take-map, drop-map, map-append}
-use Rattle.node.specs.Shape.{Tree, Forest, node, none, number, row, kids, kid, mk, trees, forest, flat, weave, before, after, total, weigh, Within, fan_out}
+use Rattle.node.specs.Shape.{Tree, node, none, row, kids, kid, mk, flat, weave, before, after, total, weigh, Within, fan_out}
 use Rattle.rules.specs.Rules.{flats, weighs, part}
 use Rattle.node.specs.Rules.{Grown, whole, parted}
-use Rattle.node.proofs.Weaves.{trees_forest, weave_cons, weave_mid, weave_part, weave_join, total_append, total_cut}
+use Rattle.node.proofs.Weaves.{trees_forest, weave_cons, weave_mid, weave_part, total_cut}
 
 module _ {E : Type 0} where
   pub flat_mk : (h m : ℕ) (es : List E) (ks : List (Tree E)) → flat (suc h) (mk m es ks) ≡ weave (map (flat h) ks) es

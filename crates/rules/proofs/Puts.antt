@@ -1,10 +1,10 @@
 -- A node parted before an entry is put into it, or after.
-use Rattle.std.proofs.Common.{◌≡◌, ℕ, zero, suc, ◌+◌, ◌-◌, ◌*◌, ◌<◌, ◌≤◌, min, List, [], ◌∷◌, ◌++◌, map, length, get_or, take, drop, sym, refl, ap, ◌∙◌, subst, ap₂, append_assoc, arith, length-append, length-drop, length-take}
+use Rattle.std.proofs.Common.{◌≡◌, ℕ, zero, suc, ◌+◌, ◌-◌, ◌<◌, ◌≤◌, List, [], ◌∷◌, ◌++◌, length, get_or, take, drop, sym, refl, ap, ◌∙◌, arith, length-take}
 use lib.Seq.{take-nil, drop-nil}
 use Rattle.std.proofs.lemmas.List.{take-append-le, drop-append-le, take-take, drop-take, drop-drop, get_or_append_left, get_or-take}
 use Rattle.node.specs.Shape.{Tree, mk}
 use Rattle.rules.specs.Rules.{part}
-use Rattle.node.specs.Rules.{Grown, parted, put, swap}
+use Rattle.node.specs.Rules.{parted, put, swap}
 
 module _ {X : Type 0} where
   -- cut behind the place

@@ -1,15 +1,21 @@
 -- The way of the index: what stands left and right of it.
-use Rattle.std.proofs.Common.{◌≡◌, ℕ, zero, suc, ◌+◌, ◌-◌, ◌*◌, ◌<◌, ◌≤◌, Bool, true, false, cond, ◌⊎◌, List, [], ◌∷◌, ◌++◌, map, length, get_or, take, drop, All, sym, refl, ap, ◌∙◌, subst, inl, inr, ⊎_elim, append_assoc, arith, take-append-drop}
-use Rattle.std.proofs.lemmas.List.Elements.{All-append}
+use Rattle.std.proofs.Common.{◌≡◌, ℕ, zero, suc, ◌≤◌, Bool, true, false, List, [], ◌∷◌, ◌++◌, map, length, take, drop, All, sym, ap, ◌∙◌, subst, ⊎_elim, append_assoc, arith, take-append-drop}
+use Rattle.std.proofs.lemmas.List.Elements.{All-append, All-nil, All-cons, All-head, All-tail}
 use Rattle.std.proofs.lemmas.Bool.{cases_Bool, both_ways, cond_both}
 use Rattle.node.specs.Shape.{Tree, row, kids, kid, flat, weave, before, after, Within}
 use Rattle.rules.specs.Rules.{low, high}
 use Rattle.node.specs.Sorted.{index}
 use Rattle.rules.specs.Laws.{WayParts}
 use Rattle.node.specs.Sorted.{Rising}
-use Rattle.rules.proofs.Nodes.{flat_open, within_kid, within_fan, flat_leaf}
+use Rattle.rules.proofs.Nodes.{flat_open, within_kid, within_fan}
 
 module _ {E : Type 0} (b : E → Bool) where
+  abbrev IsYes : E → Type 0
+  IsYes x = b x ≡ true
+
+  abbrev IsNo : E → Type 0
+  IsNo x = b x ≡ false
+
   abbrev pub Yes : List E → Type 0
   Yes xs = All (λ x. b x ≡ true) xs
 
@@ -26,16 +32,17 @@ module _ {E : Type 0} (b : E → Bool) where
   index_le (e ∷ es) = cond_both (b e) (suc (index b es)) 0 (λ i. i ≤ suc (length es)) (λ _. omega (arith, index_le es)) (λ _. omega arith)
 
   pub index_yes : (es : List E) → Yes (take (index b es) es)
-  index_yes [] = tt
-  index_yes (e ∷ es) = cond_both (b e) (suc (index b es)) 0 (λ i. Yes (take i (e ∷ es))) (λ q. (q, index_yes es)) (λ _. tt)
+  index_yes [] = All-nil IsYes
+  index_yes (e ∷ es) = cond_both (b e) (suc (index b es)) 0 (λ i. Yes (take i (e ∷ es))) (λ q. All-cons IsYes e (take (index b es) es) q (index_yes es)) (λ _. All-nil IsYes)
 
   pub index_stops : (es : List E) → Stops (drop (index b es) es)
   index_stops [] = tt
   index_stops (e ∷ es) = cond_both (b e) (suc (index b es)) 0 (λ i. Stops (drop i (e ∷ es))) (λ q. index_stops es) (λ q. q)
 
   pub no_parts : (xs ys : List E) → No (xs ++ ys) → No xs × No ys
-  no_parts [] ys a = (tt, a)
-  no_parts (x ∷ xs) ys a = ((a.0, (no_parts xs ys a.1).0), (no_parts xs ys a.1).1)
+  no_parts [] ys a = (All-nil IsNo, a)
+  no_parts (x ∷ xs) ys a =
+      let r = no_parts xs ys (All-tail IsNo x (xs ++ ys) a) in (All-cons IsNo x xs (All-head IsNo x (xs ++ ys) a) r.0, r.1)
 
   pub rising_parts : (xs ys : List E) → Rising b (xs ++ ys) → Rising b xs × Rising b ys
   rising_parts [] ys r = (tt, r)
@@ -43,26 +50,26 @@ module _ {E : Type 0} (b : E → Bool) where
 
   -- what stands before one that is below is below
   pub rising_yes : (xs : List E) (x : E) (ys : List E) → Rising b (xs ++ x ∷ ys) → b x ≡ true → Yes xs
-  rising_yes [] x ys r q = tt
-  rising_yes (z ∷ xs) x ys r q = (
-    ⊎_elim (λ p. p) (λ p. absurd (both_ways (b x) (no_parts xs (x ∷ ys) (r.0 p)).1.0 q)) (cases_Bool (b z)),
-    rising_yes xs x ys r.1 q,
-  )
+  rising_yes [] x ys r q = All-nil IsYes
+  rising_yes (z ∷ xs) x ys r q =
+      All-cons IsYes z xs
+      (⊎_elim (λ p. p) (λ p. absurd (both_ways (b x) (All-head IsNo x ys (no_parts xs (x ∷ ys) (r.0 p)).1) q)) (cases_Bool (b z)))
+      (rising_yes xs x ys r.1 q)
 
   pub before_yes : (ls : List (List E)) (es : List E) → Yes es → Rising b (before ls es) → Yes (before ls es)
-  before_yes [] es y r = tt
-  before_yes (l ∷ ls) [] y r = tt
+  before_yes [] es y r = All-nil IsYes
+  before_yes (l ∷ ls) [] y r = All-nil IsYes
   before_yes (l ∷ ls) (e ∷ es) y r =
-      All-append (λ x. b x ≡ true) l (e ∷ before ls es) (rising_yes l e (before ls es) r y.0)
-      (y.0, before_yes ls es y.1 (rising_parts l (e ∷ before ls es) r).1.1)
+      All-append (λ x. b x ≡ true) l (e ∷ before ls es) (rising_yes l e (before ls es) r (All-head IsYes e es y))
+      (All-cons IsYes e (before ls es) (All-head IsYes e es y) (before_yes ls es (All-tail IsYes e es y) (rising_parts l (e ∷ before ls es) r).1.1))
 
   pub after_no : (ls : List (List E)) (es : List E) → Stops es → Rising b (after ls es) → No (after ls es)
-  after_no ls [] s r = tt
-  after_no ls (e ∷ es) s r = (s, r.0 s)
+  after_no ls [] s r = All-nil IsNo
+  after_no ls (e ∷ es) s r = All-cons IsNo e (weave ls es) s (r.0 s)
 
   pub stops_no : (es : List E) → Stops es → Rising b es → No es
-  stops_no [] s r = tt
-  stops_no (e ∷ es) s r = (s, r.0 s)
+  stops_no [] s r = All-nil IsNo
+  stops_no (e ∷ es) s r = All-cons IsNo e es s (r.0 s)
 
   pub way_flat : (least h : ℕ) (t : Tree E) → Within least h t → flat h t ≡ low b h t ++ high b h t
   unfolding flat low high

@@ -1,5 +1,5 @@
 -- The laws of insertion.
-use Rattle.std.specs.Prelude.{◌≡◌, ℕ, suc, ◌+◌, ◌≤◌, Bool, true, false, cond, List, ◌∷◌, ◌++◌, All, nat_le}
+use Rattle.std.specs.Prelude.{◌≡◌, ℕ, suc, ◌+◌, ◌≤◌, Bool, true, false, cond, ◌∷◌, ◌++◌, All, nat_le}
 use Rattle.node.specs.Shape.{Tree, flat, weigh, Formed}
 use Rattle.node.specs.Sorted.{Rising, Sorted, Downward}
 use Rattle.rules.specs.Rules.{grow, insert, low, high, run, upto}

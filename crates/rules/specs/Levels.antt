@@ -1,6 +1,6 @@
 -- The top of a tree in the tables.
 --   LevelsStand    a new root leaf holds nothing; a root put above another has it for its only child; and nothing else has changed
-use Rattle.std.specs.Prelude.{◌≡◌, ℕ, ◌<◌, List, [], ◌∷◌, length, ◌≢◌}
+use Rattle.std.specs.Prelude.{ℕ, ◌<◌, List, [], ◌∷◌, length, ◌≢◌}
 use Rattle.node.specs.declared.head.Head.{Head}
 use Rattle.node.specs.Store.{tables, Node, Linked, Changed, head_in}
 use Rattle.node.specs.Balance.{Rooted}

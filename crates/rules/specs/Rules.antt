@@ -4,7 +4,7 @@
 --   insert      the same with a new root above where there are two; with its height
 --   run         how many nodes are full, from the leaf of the way upward
 --   need        how many nodes an insertion takes
-use Rattle.std.specs.Prelude.{ℕ, zero, suc, ◌+◌, ◌-◌, Bool, cond, List, [], ◌∷◌, ◌++◌, map, length, take, drop, nat_le, nat_lt, slice_index_or}
+use Rattle.std.specs.Prelude.{ℕ, zero, suc, ◌+◌, Bool, cond, List, [], ◌∷◌, ◌++◌, map, length, take, drop, nat_le, nat_lt, slice_index_or}
 use Rattle.node.specs.Shape.{Tree, number, row, kids, kid, mk, flat, before, after, weigh}
 use Rattle.node.specs.Rules.{Grown, whole, parted, settle, swap}
 use Rattle.node.specs.Sorted.{index}
