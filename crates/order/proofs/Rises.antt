@@ -4,8 +4,7 @@
 --     rising_inserted       a key put where it belongs
 --     rising_stored         a key put where a search for it stopped and did not find it
 --     rising_removed        a key taken out
-use Rattle.std.proofs.Common.{◌≡◌, ℕ, zero, suc, ◌+◌, ◌-◌, ◌<◌, ◌≤◌, Bool, false, List, length, get_or, Ordering, Less, Equal, Greater, subst, add-one, arith}
-use Rattle.std.specs.Ordering.{is_le, ordering_reverse}
+use Rattle.std.proofs.Common.{◌≡◌, ℕ, zero, suc, ◌+◌, ◌-◌, ◌<◌, ◌≤◌, Bool, false, List, length, get_or, Ordering, Less, subst, add-one, arith}
 use Rattle.std.specs.List.{insert, remove}
 use Rattle.std.proofs.lemmas.List.Edits.{length-insert, get_or-insert_below, get_or-insert_at, get_or-insert_above, length-remove, get_or-remove_below, get_or-remove_above}
 use Rattle.order.specs.Laws.{Ordered}

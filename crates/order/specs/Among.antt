@@ -9,7 +9,7 @@ use Rattle.std.specs.Prelude.{◌≡◌, ℕ, zero, suc, ◌+◌, ◌<◌, ◌�
 use Rattle.std.specs.declared.cmp.Ordering.TheVariants.{Less, Equal, Greater}
 use Rattle.std.specs.declared.cmp.Ordering.{Ordering}
 use Rattle.std.proofs.Common.{arith}
-use Rattle.std.specs.Ordering.{is_le, is_eq, ordering_reverse}
+use Rattle.std.specs.Ordering.{is_le, is_eq}
 use Rattle.std.specs.Cmp.{IsTotalOrder, alike_right}
 use Rattle.order.specs.Laws.{Ordered, Placed, Pointed}
 use Rattle.order.specs.Found.{first_not_below, found_at, comparisons, Stopped, Parted, Strict}
@@ -45,7 +45,7 @@ module _ {K : Type 0} {cmp : K → K → Ordering} (o : Ordered cmp) where
 
 -- ---- orders from orders
 
-pub from_total : {K : Type 0} {R : K → K → Ordering → Type 0} (t : IsTotalOrder R) → Ordered R
+pub from_total : {K : Type 0} {R : K → K → Ordering} (t : IsTotalOrder R) → Ordered R
 from_total t = record {
   itself = λ a. let m = t.antisymm a a in grind arith;
   mirrors = λ a b. t.antisymm b a;

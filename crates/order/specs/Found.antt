@@ -1,10 +1,10 @@
 -- A search from the front. Assumes nothing.
 --     first_not_below place keys      the index of the first key that is not below the query, or the number of keys
---     found_at place keys            whether there is such a key and it is the same as the query
---     comparisons place keys        the comparisons made: one for each key up to the one that stops the search
---     searched place keys           the index and the flag as one result
+--     found_at place keys             whether there is such a key and it is the same as the query
+--     comparisons place keys          the comparisons made: one for each key up to the one that stops the search
+--     searched place keys             the index and the flag as one result
 --     index_of r, is_found r          the two again
---     Stopped, Parted, Strict       what the keys before and after the index are to the query
+--     Stopped, Parted, Strict         what the keys before and after the index are to the query
 -- `place k` is `Less` where the query is below the key `k`, so that `k` is below the query where it is `Greater`.
 use Rattle.std.specs.Prelude.{◌≡◌, ℕ, ◌+◌, ◌<◌, ◌≤◌, Bool, true, false, cond, List, [], ◌∷◌, length, ◌≢◌, slice_index_or}
 use Rattle.std.specs.declared.cmp.Ordering.TheVariants.{Less, Equal, Greater}

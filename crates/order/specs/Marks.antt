@@ -1,6 +1,6 @@
 -- The marks of lots. Assumes nothing.
---     used m           the bytes of the mark `m` that count: its cells up to its length, or all twelve where the length is more
---     padded bytes     up to twelve bytes, followed by zeros to make twelve
+--     used m            the bytes of the mark `m` that count: its cells up to its length, or all twelve where the length is more
+--     padded bytes      up to twelve bytes, followed by zeros to make twelve
 --     mark_of bytes     the mark that these bytes make
 --     empty_mark        the mark of no bytes: its length and its cells are zero
 use Rattle.std.specs.Prelude.{ℕ, ◌-◌, min, List, ◌++◌, length, take, replicate}

@@ -1,4 +1,4 @@
-use Rattle.std.proofs.Common.{◌≡◌, ℕ, ◌<◌, ◌≤◌, length, get_or, Greater}
+use Rattle.std.proofs.Common.{◌≡◌, ℕ, ◌<◌, get_or, Greater}
 use Rattle.order.proofs.search.search_linear.Given as goal
 
 abbrev pub invariant-loop-i : goal.invariant-loop-i

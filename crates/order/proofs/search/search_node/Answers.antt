@@ -23,7 +23,7 @@ returns-then-found g c =
     let f = c.search_linear-index.result.1 in
     let e = c.search_linear-index.ensures in
     let t : f ≡ true = c.if-found.true in
-    let m : c.if-index-keys.made ≡ comparisons (places q) keys = elim c.if-index-keys.branch [ then-index-keys w ↦ omega (arith, w.made_is, e.made) | else-index-keys w ↦ omega (arith, w.made_is, e.made) ] in
+    let m : c.if-index-keys.made ≡ comparisons (places q) keys = elim c.if-index-keys.branch [ then-index-keys w ↦ omega (arith, w.made-is, e.made) | else-index-keys w ↦ omega (arith, w.made-is, e.made) ] in
     record {
       result = found_result (places q) keys i f e.first e.found t;
       made = m;
@@ -42,7 +42,7 @@ returns-else-found g c =
     let f = c.search_linear-index.result.1 in
     let e = c.search_linear-index.ensures in
     let t : f ≡ false = c.if-found.false in
-    let m : c.if-index-keys.made ≡ comparisons (places q) keys = elim c.if-index-keys.branch [ then-index-keys w ↦ omega (arith, w.made_is, e.made) | else-index-keys w ↦ omega (arith, w.made_is, e.made) ] in
+    let m : c.if-index-keys.made ≡ comparisons (places q) keys = elim c.if-index-keys.branch [ then-index-keys w ↦ omega (arith, w.made-is, e.made) | else-index-keys w ↦ omega (arith, w.made-is, e.made) ] in
     record {
       result = down_result (places q) keys i f e.first e.found t;
       made = m;
