@@ -1,17 +1,15 @@
 -- What a lookup finds in the list of a tree. Assumes nothing.
-use Rattle.std.proofs.Common.{◌≡◌, ℕ, zero, suc, ◌+◌, ◌-◌, ◌*◌, ◌<◌, ◌≤◌, Bool, true, false, cond, ◌⊎◌, List, [], ◌∷◌, ◌++◌, map, length, get_or, take, drop, Some, None, All, Contains, Option, Ordering, Less, Equal, Greater, sym, refl, ap, ◌∙◌, subst, ap₂, inl, inr, ⊎_elim, arith, take-append-drop}
-use Rattle.std.specs.Ordering.{is_lt, is_le, is_gt, ordering_reverse}
-use Rattle.std.proofs.lemmas.List.Elements.{All-append, All-weaker, Contains-get_or, Contains-append_left, Contains-append_right}
-use Rattle.std.proofs.lemmas.Bool.{cases_Bool}
+use Rattle.std.proofs.Common.{◌≡◌, ℕ, zero, suc, ◌+◌, ◌*◌, ◌≤◌, Bool, true, false, cond, List, [], ◌∷◌, ◌++◌, map, length, take, drop, Some, None, All, Contains, Option, Ordering, Less, Equal, Greater, sym, refl, ap, subst, arith, take-append-drop}
+use Rattle.std.specs.Ordering.{is_lt, is_le, is_gt}
+use Rattle.std.proofs.lemmas.List.Elements.{All-append, All-weaker, Contains-get_or, Contains-append_left, Contains-append_right, All-nil, All-cons, All-head, All-tail}
 use Rattle.order.specs.Found.{passed, first_not_below, found_at, comparisons}
-use Rattle.order.specs.Laws.{Ordered, Placed, Pointed}
-use Rattle.node.specs.Shape.{Tree, row, kids, kid, flat, before, after, weave, Within, Formed, root_least}
+use Rattle.node.specs.Shape.{Tree, row, kids, kid, flat, before, after, weave, Within, root_least}
 use Rattle.node.specs.Sorted.{Sorted, Downward, Rising, index}
 use Rattle.node.specs.Store.{first}
 use Rattle.node.proofs.Sorting.{sorted_rises}
-use Rattle.rules.proofs.Nodes.{flat_open, flat_leaf, within_fan, within_kid, within_most}
-use Rattle.rules.proofs.Ways.{index_le, index_yes, before_yes, rising_parts}
-use Rattle.map.specs.Lookup.{nth, seek, looks, Sought, InOrder, LookupFinds, LookupAlone, LookupBound}
+use Rattle.rules.proofs.Nodes.{flat_open, within_fan, within_kid, within_most}
+use Rattle.rules.proofs.Ways.{index_le, index_yes, before_yes}
+use Rattle.map.specs.Lookup.{nth, seek, looks, Sought, LookupFinds, LookupAlone, LookupBound}
 
 module _ {E : Type 0} (le : E → E → Bool) where
   sorted_parts : (xs ys : List E) → Sorted le (xs ++ ys) → Sorted le xs × Sorted le ys
@@ -22,8 +20,10 @@ module _ {E : Type 0} (le : E → E → Bool) where
       ((a.0, r.0), r.1)
     where
       parts : (us vs : List E) → All (λ y. le x y ≡ true) (us ++ vs) → All (λ y. le x y ≡ true) us × All (λ y. le x y ≡ true) vs
-      parts [] vs a = (tt, a)
-      parts (u ∷ us) vs a = ((a.0, (parts us vs a.1).0), (parts us vs a.1).1)
+      parts [] vs a = (All-nil (λ y. le x y ≡ true), a)
+      parts (u ∷ us) vs a =
+          let rest = parts us vs (All-tail (λ y. le x y ≡ true) u (us ++ vs) a) in
+          (All-cons (λ y. le x y ≡ true) u us (All-head (λ y. le x y ≡ true) u (us ++ vs) a) rest.0, rest.1)
 
 module _ {E : Type 0} (place : E → Ordering) where
   -- below the query
@@ -90,8 +90,8 @@ module _ {E : Type 0} (place : E → Ordering) where
   -- what is in order behind one that is above the query is above it
   module _ (le : E → E → Bool) (up : (x y : E) → le x y ≡ true → place x ≡ Less → place y ≡ Less) (down : Downward le b) where
     above_all : (es : List E) → Above es → Sorted le es → All (λ e. place e ≡ Less) es
-    above_all [] a s = tt
-    above_all (e ∷ es) a s = (a, All-weaker (λ y. le e y ≡ true) (λ y. place y ≡ Less) (λ y l. up e y l a) es s.0)
+    above_all [] a s = All-nil (λ e. place e ≡ Less)
+    above_all (e ∷ es) a s = All-cons (λ y. place y ≡ Less) e es a (All-weaker (λ y. le e y ≡ true) (λ y. place y ≡ Less) (λ y l. up e y l a) es s.0)
 
     above_not : (es : List E) → Above es → Sorted le es → Not es
     above_not es a s = All-weaker (λ e. place e ≡ Less) (λ e. place e ≡ Equal → ⊥) (λ e l q. let z : ◌≡◌ {A = ℕ} 0 1 = cc in omega arith) es (above_all es a s)
@@ -201,12 +201,12 @@ lookup_finds compares places q h t p w s =
 
 module _ {E : Type 0} (le : E → E → Bool) where
   all_mid : (P : E → Type 0) (xs : List E) (e : E) (ys : List E) → All P (xs ++ e ∷ ys) → P e
-  all_mid P [] e ys a = a.0
-  all_mid P (x ∷ xs) e ys a = all_mid P xs e ys a.1
+  all_mid P [] e ys a = All-head P e ys a
+  all_mid P (x ∷ xs) e ys a = all_mid P xs e ys (All-tail P x (xs ++ e ∷ ys) a)
 
   sorted_mid : (xs : List E) (e : E) (ys : List E) → Sorted le (xs ++ e ∷ ys) → All (λ x. le x e ≡ true) xs × All (λ y. le e y ≡ true) ys
-  sorted_mid [] e ys s = (tt, s.0)
-  sorted_mid (x ∷ xs) e ys s = let r = sorted_mid xs e ys s.1 in ((all_mid (λ y. le x y ≡ true) xs e ys s.0, r.0), r.1)
+  sorted_mid [] e ys s = (All-nil (λ x. le x e ≡ true), s.0)
+  sorted_mid (x ∷ xs) e ys s = let r = sorted_mid xs e ys s.1 in (All-cons (λ y. le y e ≡ true) x xs (all_mid (λ y. le x y ≡ true) xs e ys s.0) r.0, r.1)
 
 pub lookup_alone : {K V Q : Type 0} → LookupAlone K V Q
 lookup_alone {K} {V} {Q} compares places q o p xs e ys s h =

@@ -1,5 +1,5 @@
 -- An entry put into a node of either kind. Assumes nothing.
-use Rattle.std.proofs.Common.{◌≡◌, ℕ, zero, suc, ◌+◌, ◌-◌, ◌<◌, ◌≤◌, Bool, true, false, cond, eqb, ◌⊎◌, List, [], ◌∷◌, ◌++◌, length, Ok, All, Result, sym, refl, ap, ◌∙◌, subst, ⊎_elim, append-nil, arith, length-append, eqb-true}
+use Rattle.std.proofs.Common.{◌≡◌, ℕ, suc, ◌+◌, ◌-◌, ◌<◌, ◌≤◌, Bool, true, false, cond, eqb, List, [], ◌∷◌, ◌++◌, length, Ok, All, Result, sym, refl, ap, ◌∙◌, subst, arith, length-append, eqb-true}
 use borrow.Author.Tests.{eqb-false}
 use Rattle.std.proofs.lemmas.List.{nil_from_length}
 use Rattle.std.proofs.lemmas.List.Elements.{All-weaker, All-append}
@@ -8,7 +8,6 @@ use Rattle.supply.specs.declared.faults.Fault.{Fault}
 use Rattle.node.specs.declared.nodes.NodeRef.{NodeRef}
 use Rattle.node.specs.declared.nodes.Leaf.{Leaf}
 use Rattle.node.specs.declared.nodes.Internal.{Internal}
-use Rattle.node.specs.declared.nodes.ForceResult.{ForceResult}
 use Rattle.node.specs.declared.nodes.ForceResult.TheVariants as kind
 use Rattle.node.specs.Kinds.{forced}
 use Rattle.node.specs.Store.{Tables, Sized, Node, Linked, Changed, times}

@@ -1,8 +1,8 @@
 -- What replacement does to the list and the form of a tree. Assumes nothing.
-use Rattle.std.proofs.Common.{◌≡◌, ℕ, zero, suc, ◌+◌, ◌-◌, ◌*◌, ◌<◌, ◌≤◌, Bool, true, false, cond, List, [], ◌∷◌, ◌++◌, map, length, get_or, take, drop, Some, None, Option, Ordering, sym, refl, ap, ◌∙◌, subst, append_assoc, arith, take-append-drop, length-take}
+use Rattle.std.proofs.Common.{◌≡◌, ℕ, zero, suc, ◌+◌, ◌<◌, Bool, true, false, cond, List, [], ◌∷◌, ◌++◌, map, length, take, drop, Some, None, Option, Ordering, sym, refl, ap, ◌∙◌, subst, append_assoc, arith, take-append-drop, length-take}
 use lib.Seq.{split_at}
 use Rattle.order.specs.Found.{found_at}
-use Rattle.node.specs.Shape.{Tree, node, none, number, row, kids, kid, mk, flat, before, after, weave, total, weigh, Within, Formed, root_least}
+use Rattle.node.specs.Shape.{Tree, node, none, number, row, kids, kid, mk, flat, before, after, weave, total, weigh, Within, root_least}
 use Rattle.node.specs.Rules.{whole, swap}
 use Rattle.node.proofs.Weaves.{total_append}
 use Rattle.rules.proofs.Nodes.{flat_mk, flat_open, flat_patch, weigh_mk, within_mk, within_kid, within_least, within_most, within_fan, within_limbs}

@@ -1,14 +1,13 @@
 -- Lookup in one node, and down from it. Assumes nothing.
-use Rattle.std.proofs.Common.{◌≡◌, ℕ, zero, suc, ◌+◌, ◌-◌, ◌*◌, ◌<◌, ◌≤◌, Bool, true, false, cond, ◌⊎◌, List, [], ◌∷◌, ◌++◌, map, length, get_or, take, drop, Some, None, Ok, Option, Result, Ordering, Less, Equal, Greater, sym, refl, ap, ◌∙◌, subst, ap₂, ⊎_elim, arith, length-take}
+use Rattle.std.proofs.Common.{◌≡◌, ℕ, zero, suc, ◌+◌, ◌-◌, ◌*◌, ◌<◌, ◌≤◌, Bool, true, false, cond, List, [], ◌∷◌, ◌++◌, map, length, get_or, take, drop, Some, None, Ok, Result, Ordering, Less, Equal, Greater, sym, refl, ap, ◌∙◌, subst, ap₂, arith}
 use lib.ListN.{length-map}
 use lib.Seq.{split_at}
-use Rattle.std.proofs.lemmas.List.{length-take-le, get_or-map, get_or_default}
-use Rattle.order.specs.declared.search.SearchResult.{SearchResult}
+use Rattle.std.proofs.lemmas.List.{length-take-le, get_or-map}
 use Rattle.order.specs.declared.search.SearchResult.TheVariants.{Found, GoDown}
-use Rattle.order.specs.Found.{passed, first_not_below, found_at, comparisons, searched}
+use Rattle.order.specs.Found.{passed, first_not_below, found_at, comparisons}
 use Rattle.node.specs.Cells.{span, Run}
 use Rattle.node.specs.Shape.{Tree, node, none, number, row, kids, kid}
-use Rattle.node.specs.Store.{Tables, Sized, Node, Holds, head_at, first, second, numbers, itself}
+use Rattle.node.specs.Store.{Tables, Sized, Node, Holds, head_at, first, second, numbers}
 use Rattle.node.specs.Operations.{Strange}
 use Rattle.node.proofs.Tabled.{not_strange}
 use Rattle.node.proofs.Runs.{run_at, edge_is}

@@ -1,8 +1,8 @@
 -- A node after a write to one of its values. Assumes nothing.
-use Rattle.std.proofs.Common.{◌≡◌, ℕ, ◌+◌, ◌-◌, ◌*◌, ◌<◌, ◌≤◌, List, [], ◌∷◌, ◌++◌, length, set, sym, refl, ap, ◌∙◌, subst, arith, length-append}
+use Rattle.std.proofs.Common.{◌≡◌, ℕ, ◌+◌, ◌*◌, ◌<◌, List, [], ◌∷◌, ◌++◌, length, set, sym, refl, ◌∙◌, arith, length-append}
 use Rattle.node.specs.declared.head.Head.{Head}
-use Rattle.node.specs.Cells.{span, Put}
-use Rattle.node.specs.Store.{Tables, tables, Sized, Node, Changed, first, second}
+use Rattle.node.specs.Cells.{Put}
+use Rattle.node.specs.Store.{tables, Sized, Node, Changed, first, second}
 use Rattle.node.proofs.Spans.{written}
 use Rattle.node.proofs.Adopts.{times_one}
 use Rattle.node.proofs.Runs.{put_others, run_next, run_changed}

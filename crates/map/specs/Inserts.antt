@@ -2,7 +2,7 @@
 --   Edges h c cs    the edges that come with an entry: none in a leaf, one to c above
 --   InsertsIn       node m has room: the entry e goes to index i, its edges behind edge i
 --   Replaces        the value at index i of node m is replaced, and the old one answered
-use Rattle.std.specs.Prelude.{◌≡◌, ℕ, ◌+◌, ◌<◌, ◌≤◌, List, [], ◌∷◌, ◌++◌, length, Ok, Result, ◌≢◌}
+use Rattle.std.specs.Prelude.{◌≡◌, ℕ, ◌+◌, ◌<◌, List, [], ◌∷◌, ◌++◌, length, Ok, Result, ◌≢◌}
 use Rattle.supply.specs.declared.faults.Fault.{Fault}
 use Rattle.node.specs.Store.{Tables, Sized, Node, Linked, Changed, first, second}
 use Rattle.node.specs.Operations.{Fan, Children}

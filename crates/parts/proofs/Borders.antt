@@ -1,6 +1,6 @@
 -- Trees with a border: lists of which one is unlike the others, and trees whose border nodes may have any number of entries up to 11.
 use Rattle.std.proofs.Common.{◌≡◌, ℕ, zero, suc, ◌+◌, ◌<◌, ◌≤◌, List, [], ◌∷◌, ◌++◌, length, get_or, take, drop, All, sym, refl, ap, ◌∙◌, subst, zero-add, arith}
-use Rattle.std.proofs.lemmas.List.Elements.{All-append, All-take, All-drop}
+use Rattle.std.proofs.lemmas.List.Elements.{All-append, All-take, All-drop, All-nil, All-cons, All-head, All-tail}
 use Rattle.node.specs.Shape.{Tree, number, row, kids, mk, trees, Within, fan_out}
 use Rattle.node.specs.declared.ends.Side.{Side}
 use Rattle.node.specs.declared.ends.Side.TheVariants.{First, Last}
@@ -23,14 +23,14 @@ module _ {X : Type 0} (P Q : X → Type 0) where
   pub around_right : (n j : ℕ) (xs ys : List X) → n ≡ length xs + j → All P xs → Around P Q j ys → Around P Q n (xs ++ ys)
   around_right n j [] ys q a c = subst (λ k. Around P Q k ys) (sym (q ∙ zero-add j)) c
   around_right zero j (x ∷ xs) ys q a c = absurd (omega arith)
-  around_right (suc n) j (x ∷ xs) ys q a c = (a.0, around_right n j xs ys (omega arith) a.1 c)
+  around_right (suc n) j (x ∷ xs) ys q a c = (All-head P x xs a, around_right n j xs ys (omega arith) (All-tail P x xs a) c)
 
   -- in front of it
   pub around_take : (c j : ℕ) (xs : List X) → c ≤ j → Around P Q j xs → All P (take c xs)
-  around_take zero j xs q a = tt
+  around_take zero j xs q a = All-nil P
   around_take (suc c) j [] q a = absurd a
   around_take (suc c) zero (x ∷ xs) q a = absurd (omega arith)
-  around_take (suc c) (suc j) (x ∷ xs) q a = (a.0, around_take c j xs (omega arith) a.1)
+  around_take (suc c) (suc j) (x ∷ xs) q a = All-cons P x (take c xs) a.0 (around_take c j xs (omega arith) a.1)
 
   pub around_from : (c j n : ℕ) (xs : List X) → n + c ≡ j → Around P Q j xs → Around P Q n (drop c xs)
   around_from zero j n xs q a = subst (λ k. Around P Q k xs) (omega arith) a

@@ -2,7 +2,7 @@
 use Rattle.std.proofs.Common.{◌≡◌, ℕ, zero, suc, ◌+◌, ◌-◌, ◌<◌, ◌≤◌, Bool, true, false, cond, ltb, leb, List, [], ◌∷◌, ◌++◌, map, length, get_or, take, drop, All, sym, refl, ap, ◌∙◌, subst, append-nil, arith, length-append, length-drop, take-append-drop, length-take, drop-cons, get_or-append-add}
 use lib.ListN.{length-map}
 use lib.Seq.{split_at, take-nil, drop-nil, take-append-le, drop-append-le, take-append-add, drop-append-add}
-use Rattle.std.proofs.lemmas.List.Elements.{All-take, All-drop, All-append}
+use Rattle.std.proofs.lemmas.List.Elements.{All-take, All-drop, All-append, All-nil, All-cons}
 use Rattle.std.proofs.lemmas.List.{map-append, nil_from_length, get_or_append_left}
 use Rattle.std.proofs.lemmas.Bool.{cond_both, leb-true, leb-false, ltb-true, ltb-false}
 use Rattle.node.specs.Shape.{Tree, node, none, number, row, kids, kid, mk, flat, weave, before, after, Within, Formed, fan_out, root_least}
@@ -197,12 +197,18 @@ module _ {E : Type 0} where
   abbrev pub Mends : Side → ℕ → (Tree E → Tree E) → Type 0
   Mends s h f = (k : Tree E) → Edge s h k → 5 ≤ length (row k) → Within 4 h (f k) × (flat h (f k) ≡ flat h k)
 
+  one : (h : ℕ) (k : Tree E) → Within 4 h k → All (Within 4 h) (k ∷ [])
+  one h k a = All-cons (Within 4 h) k [] a (All-nil (Within 4 h))
+
+  two : (h : ℕ) (l r : Tree E) → Within 4 h l → Within 4 h r → All (Within 4 h) (l ∷ r ∷ [])
+  two h l r a c = All-cons (Within 4 h) l (r ∷ []) a (one h r c)
+
   pub onward_ok : (s : Side) (h : ℕ) (f : Tree E → Tree E) → Mends s h f → (g : Grown E) → Ready s h g
       → All (Within 4 h) (sprung (onward s f g)) × (flats h (onward s f g) ≡ flats h g)
-  onward_ok First h f ih (whole k) a = (((ih k a.0 a.1).0, tt), (ih k a.0 a.1).1)
-  onward_ok First h f ih (parted l x r) a = (((ih l a.0 a.1).0, (a.2, tt)), ap (λ z. z ++ x ∷ flat h r) (ih l a.0 a.1).1)
-  onward_ok Last h f ih (whole k) a = (((ih k a.0 a.1).0, tt), (ih k a.0 a.1).1)
-  onward_ok Last h f ih (parted l x r) a = ((a.0, ((ih r a.1 a.2).0, tt)), ap (λ z. flat h l ++ x ∷ z) (ih r a.1 a.2).1)
+  onward_ok First h f ih (whole k) a = (one h (f k) (ih k a.0 a.1).0, (ih k a.0 a.1).1)
+  onward_ok First h f ih (parted l x r) a = (two h (f l) r (ih l a.0 a.1).0 a.2, ap (λ z. z ++ x ∷ flat h r) (ih l a.0 a.1).1)
+  onward_ok Last h f ih (whole k) a = (one h (f k) (ih k a.0 a.1).0, (ih k a.0 a.1).1)
+  onward_ok Last h f ih (parted l x r) a = (two h l (f r) a.0 (ih r a.1 a.2).0, ap (λ z. flat h l ++ x ∷ z) (ih r a.1 a.2).1)
 
   pub fill_is : (m : ℕ) (es fs : List E) (ks ls : List (Tree E)) (g : Grown E) → fill m es fs ks ls g ≡ mk m (es ++ (risen g ++ fs)) (ks ++ (sprung g ++ ls))
   fill_is m es fs ks ls (whole k) = refl

@@ -1,4 +1,4 @@
-use Rattle.std.proofs.Common.{◌≡◌, ◌∷◌, ◌++◌, length, Ok, sym, ap, ◌∙◌, arith, length-append}
+use Rattle.std.proofs.Common.{Ok, arith, length-append}
 use Rattle.node.specs.Store.{tables}
 use Rattle.node.proofs.Tabled.{err_not_ok}
 use Rattle.map.specs.Inserts.{InsertsLeft, InsertsRight}
