@@ -1,7 +1,7 @@
 -- Trees with a border: lists of which one is unlike the others, and trees whose border nodes may have any number of entries up to 11.
 use Rattle.std.proofs.Common.{◌≡◌, ℕ, zero, suc, ◌+◌, ◌<◌, ◌≤◌, List, [], ◌∷◌, ◌++◌, length, get_or, take, drop, All, sym, refl, ap, ◌∙◌, subst, zero-add, arith}
 use Rattle.std.proofs.lemmas.List.Elements.{All-append, All-take, All-drop, All-nil, All-cons, All-head, All-tail}
-use Rattle.node.specs.Shape.{Tree, number, row, kids, mk, trees, Within, fan_out}
+use Rattle.node.specs.Shape.{Tree, row, kids, mk, Within, fan_out}
 use Rattle.node.specs.declared.ends.Side.{Side}
 use Rattle.node.specs.declared.ends.Side.TheVariants.{First, Last}
 use Rattle.node.specs.Ends.{end_index}

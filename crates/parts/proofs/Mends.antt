@@ -356,7 +356,7 @@ module _ {E : Type 0} where
         (around_right (Within 4 h) (Edge Last h) (length (take i (row t))) 0 (take i (kids t)) (cut_left b h (kid t i) ∷ [])
         (simp length-take (omega arith))
         (All-take (Within 4 h) i (kids t) (within_limbs least (suc h) t w))
-        (left_edge 4 h (kid t i) (within_kid least h t i w j), tt))
+        (left_edge 4 h (kid t i) (within_kid least h t i w j), All-nil (Within 4 h)))
 
     pub left_flat : (least h : ℕ) (t : Tree E) → Within least h t → flat h (cut_left b h t) ≡ low b h t
     unfolding cut_left low
