@@ -1,13 +1,14 @@
 -- A new node with its first entry: the root of a new tree, or a root above two trees. Assumes nothing.
-use Rattle.std.proofs.Common.{◌≡◌, ℕ, zero, suc, ◌+◌, ◌-◌, ◌*◌, ◌<◌, ◌≤◌, List, [], ◌∷◌, ◌++◌, map, length, Ok, All, Result, sym, refl, ap, ◌∙◌, subst, append-nil, arith}
+use Rattle.std.proofs.lemmas.List.Elements.{All-nil, All-cons, All-head, All-tail}
+use Rattle.std.proofs.Common.{◌≡◌, ℕ, suc, ◌+◌, ◌-◌, ◌<◌, ◌≤◌, List, [], ◌∷◌, ◌++◌, map, length, Ok, All, Result, sym, refl, ap, ◌∙◌, subst, append-nil, arith}
 use Rattle.supply.specs.declared.faults.Fault.{Fault}
-use Rattle.supply.specs.Stocks.{Stock, size_of, Given}
+use Rattle.supply.specs.Stocks.{Stock, Given}
 use Rattle.node.specs.declared.head.Head.{Head}
 use Rattle.node.specs.Shape.{Tree, number, mk, total}
-use Rattle.node.specs.Store.{Tables, tables, Sized, Node, Linked, Holds, Changed, head_in, times}
-use Rattle.node.specs.Laws.{occurs, below, same}
+use Rattle.node.specs.Store.{Tables, tables, Sized, Holds, Changed, head_in, times}
+use Rattle.node.specs.Laws.{occurs, same}
 use Rattle.node.specs.Levels.{new_leaf, push_level}
-use Rattle.node.specs.Balance.{mark, Rooted, Balanced, Beside}
+use Rattle.node.specs.Balance.{mark, Rooted, Balanced}
 use Rattle.node.proofs.Adopts.{times_append}
 use Rattle.node.proofs.Balances.{mark_most, mark_unused, balanced_as, balanced_given, beside_both, beside_more, beside_changed}
 use Rattle.node.proofs.Frames.{all_kept}
@@ -88,8 +89,8 @@ module _ {K V : Type 0} (H : List Head) (ks : List K) (vs : List V) (T₂ : Tabl
   pub first_leaf : (r ≡ Ok tt) × Planted (tables H ks vs) T₂ S S' (λ _. 0) (0, mk m (e ∷ []) []) 1
   first_leaf =
       crowned (tables H ks vs) (tables (new_leaf H m) ks vs) T₂ S S' 0 m e 0 r [] [] given sized (λ z. omega arith) (leaf_changed H ks vs m inside) (leaf_root H ks vs m inside)
-      (record { body = leaf_node H ks vs m inside; fan = record { leaf = λ z. refl; inner = λ z. absurd (omega arith) }; linked = λ j l. absurd (omega arith); all = tt })
-      tt (record { leaf = λ z. refl; inner = λ z. absurd (omega arith) }) did
+      (record { body = leaf_node H ks vs m inside; fan = record { leaf = λ z. refl; inner = λ z. absurd (omega arith) }; linked = λ j l. absurd (omega arith); all = All-nil (Holds (tables (new_leaf H m) ks vs) (0 - 1)) })
+      (All-nil (Holds (tables (new_leaf H m) ks vs) (0 - 1))) (record { leaf = λ z. refl; inner = λ z. absurd (omega arith) }) did
 
 -- a root above two trees
 module _ {K V : Type 0} (H : List Head) (ks : List K) (vs : List V) (T₂ : Tables K V) (S S' : Stock) (h m : ℕ) (e : K × V) (r : Result (Unit {0}) Fault) (l y : Tree (K × V)) (given : Given S S' m)
@@ -115,7 +116,7 @@ module _ {K V : Type 0} (H : List Head) (ks : List K) (vs : List V) (T₂ : Tabl
       (λ z p.
       let q : times z (m ∷ number l ∷ []) ≡ same z m + same z (number l) = omega arith in
       omega (arith, free z, tops_parts z h (l ∷ y ∷ []), tops_parts z h (l ∷ []), tops_parts z h (y ∷ [])))
-      (u, (v, tt))
+      (All-cons (Holds T h) l (y ∷ []) u (All-cons (Holds T h) y [] v (All-nil (Holds T h))))
 
   back : suc h - 1 ≡ h
   back = omega arith
@@ -130,9 +131,9 @@ module _ {K V : Type 0} (H : List Head) (ks : List K) (vs : List V) (T₂ : Tabl
         body = push_node H ks vs m inside (number l) left_in other room;
         fan = record { leaf = λ z. absurd (omega arith); inner = λ z. refl };
         linked = push_linked H ks vs m inside (number l) left_in other room;
-        all = (held.0, tt);
+        all = All-cons (Holds T₁ (suc h - 1)) l [] (All-head (Holds T₁ (suc h - 1)) l (y ∷ []) held) (All-nil (Holds T₁ (suc h - 1)));
       })
-      held.1 (record { leaf = λ z. absurd (omega arith); inner = λ z. refl }) did in
+      (All-tail (Holds T₁ (suc h - 1)) l (y ∷ []) held) (record { leaf = λ z. absurd (omega arith); inner = λ z. refl }) did in
       (d.0, planted_as (λ z. total (occurs z (suc h - 1)) (l ∷ []) + total (occurs z (suc h - 1)) (y ∷ [])) (λ z. occurs z h l + occurs z h y) (λ z. omega (arith, low z l, low z y)) d.1)
 
 -- a number that was taken is none of a tree whose nodes were out

@@ -1,40 +1,39 @@
 -- What came of an insertion below a node, from what came of its child. Assumes nothing.
-use Rattle.std.proofs.Common.{◌≡◌, ℕ, zero, suc, ◌+◌, ◌-◌, ◌<◌, ◌≤◌, Bool, true, false, cond, eqb, ltb, leb, ◌⊎◌, List, [], ◌∷◌, ◌++◌, map, length, get_or, take, drop, Some, None, Ok, Err, All, Option, Result, Ordering, sym, refl, ap, ◌∙◌, subst, ap₂, ⊎_elim, arith, length-append, take-append-drop, length-take, eq-eqb, ne_eqb}
-use lib.Seq.{split_at}
+use Rattle.std.proofs.Common.{◌≡◌, ℕ, zero, suc, ◌+◌, ◌-◌, ◌<◌, ◌≤◌, Bool, true, false, cond, eqb, ltb, leb, List, [], ◌∷◌, ◌++◌, length, take, drop, Some, None, Ok, Err, All, Option, Result, Ordering, sym, refl, ap, ◌∙◌, subst, ap₂, ⊎_elim, arith, length-append, take-append-drop, length-take, eq-eqb, ne_eqb}
 use Rattle.std.specs.Ordering.{is_gt}
-use Rattle.std.proofs.lemmas.Bool.{cond-true, cond-false, lt-ltb, le-ltb, le-leb, lt-leb, cases_lt}
+use Rattle.std.proofs.lemmas.Bool.{cond-true, cond-false, lt-ltb, le-ltb, le-leb, cases_lt}
 use Rattle.supply.specs.declared.faults.Fault.{Fault}
 use Rattle.supply.specs.declared.faults.Fault.TheVariants.{Short}
 use Rattle.supply.specs.Stocks.{Stock, size_of}
 use Rattle.order.specs.Found.{first_not_below, found_at}
 use Rattle.node.specs.Shape.{Tree, node, none, number, row, kids, kid, mk, total}
-use Rattle.node.specs.Store.{Tables, Sized, Node, Holds, SameLink, Changed, numbers, times, first, second}
+use Rattle.node.specs.Store.{Tables, Sized, Node, Holds, Changed, numbers, first, second}
 use Rattle.node.specs.Laws.{occurs, below, same}
 use Rattle.node.specs.Rules.{Grown, whole, parted, settle, swap}
 use Rattle.node.specs.Sorted.{index}
-use Rattle.node.specs.Balance.{mark, Owns, Balanced, Beside}
+use Rattle.node.specs.Balance.{mark, Owns, Balanced}
 use Rattle.node.proofs.Balances.{mark_most, balanced_both, balanced_as, beside_both, beside_more, beside_sized, beside_changed}
 use Rattle.node.proofs.Frames.{height_suc, all_kept, linked_same}
 use Rattle.node.proofs.Tabled.{err_not_ok, ok_same}
 use Rattle.node.proofs.Numbers.{occurs_parts}
 use Rattle.std.proofs.lemmas.List.{nil_from_length}
-use Rattle.node.proofs.Weaves.{total_append, total_at}
-use Rattle.std.proofs.lemmas.List.Elements.{All-get_or}
+use Rattle.node.proofs.Weaves.{total_at}
+use Rattle.std.proofs.lemmas.List.Elements.{All-get_or, All-nil, All-cons}
 use Rattle.rules.specs.Held.{Held}
 use Rattle.rules.specs.Rules.{grow, run, rise, weighs}
-use Rattle.rules.proofs.Branches.{held_from, held_to, occurs_held}
+use Rattle.rules.proofs.Branches.{held_from, held_to}
 use Rattle.rules.proofs.Ways.{index_le}
 use Rattle.rules.proofs.Grows.{grow_agrees}
 use Rattle.map.specs.Lookup.{seek, nth}
 use Rattle.map.specs.Inserts.{Replaces}
 use Rattle.map.specs.Replacing.{alter, amend}
 use Rattle.map.proofs.Finds.{first_is, hit}
-use Rattle.map.proofs.Seeking.{seek_here, seek_leaf, seek_down, nth_at}
+use Rattle.map.proofs.Seeking.{seek_here, seek_leaf, seek_down}
 use Rattle.insertion.specs.declared.descent.InsertResult.{InsertResult}
 use Rattle.insertion.specs.declared.descent.InsertResult.TheVariants.{Replaced, Fit, Split}
-use Rattle.insertion.specs.Grew.{Grew, Inserted, answer, stem, Unchanged, seated, coming, members}
+use Rattle.insertion.specs.Grew.{Grew, seated, coming, members}
 use Rattle.insertion.specs.Descent.{need_at, above_child, Swapped, Descended, Settled, Comes}
-use Rattle.insertion.proofs.Descending.{Ran, grow_down, run_down, grow_ran, need_down, occurs_at, sum, root_apart, beside_root, link_root, reseat, sum_new, occurs_new}
+use Rattle.insertion.proofs.Descending.{Ran, grow_down, run_down, grow_ran, need_down, occurs_at, sum, beside_root, link_root, reseat, sum_new, occurs_new}
 
 no_option : {X : Type 0} (x : X) → ◌≡◌ {A = Option X} None (Some x) → ⊥
 no_option x e = let z : ◌≡◌ {A = ℕ} 0 1 = cc in omega arith
@@ -267,7 +266,7 @@ module _ {K V : Type 0} (place : (K × V) → Ordering) (T T₁ : Tables K V) (S
       pub called : ((es : List (K × V)) (ks new : List (Tree (K × V))) → Sized T₁ → size_of S₁ ≡ length T₁.heads → Holds T₁ h (mk (number t) es (seated i new ks)) → All (Holds T₁ (h - 1)) (coming new)
           → i ≤ length es → Comes h i c new ks → ((z : ℕ) → members h (number t) (seated i new ks) (coming new) z ≤ mark S₁ z) → Settled T₁ T₂ S₁ S₂ h (number t) i (k, v) above es ks new r)
           → (z : ℕ → ℕ) × Grew T T₂ S S₂ (λ z. occurs z h t) h (number t) (grow z b e h t) (run b h t) r
-      called s = settled (s (row t) (kids t) (l ∷ y ∷ []) sized₁ fits₁ held₁ (w.held.1, tt) (index_le b (row t)) comes owned₁)
+      called s = settled (s (row t) (kids t) (l ∷ y ∷ []) sized₁ fits₁ held₁ (All-cons (Holds T₁ (h - 1)) y [] w.held.1 (All-nil (Holds T₁ (h - 1)))) (index_le b (row t)) comes owned₁)
 
     abbrev Calls : Type 0
     Calls =
@@ -337,7 +336,7 @@ module _ {K V : Type 0} (place : (K × V) → Ordering) (T T' : Tables K V) (S S
   pub leaf_down : SettlesL → Descended place T T' S S' 0 e above t r
   leaf_down s =
       let none' : seek place 0 t ≡ None = (seek_leaf place t 0 refl no').0 in
-      let q = s (row t) [] [] owns.sized owns.fits held_l tt (index_le b_l (row t)) (record { leaf = λ z. (refl, refl); inner = λ z. absurd (omega arith) })
+      let q = s (row t) [] [] owns.sized owns.fits held_l (All-nil (Holds T (0 - 1))) (index_le b_l (row t)) (record { leaf = λ z. (refl, refl); inner = λ z. absurd (omega arith) })
       (λ x. omega (arith, count_leaf x, owns.owned x)) in
       ⊎_elim
       (λ (l : length (row t) < 11).

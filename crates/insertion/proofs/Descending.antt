@@ -1,32 +1,26 @@
 -- Insertion below a node, from what came of its child. Assumes nothing.
-use Rattle.std.proofs.Common.{◌≡◌, ℕ, zero, suc, ◌+◌, ◌-◌, ◌<◌, ◌≤◌, Bool, true, false, cond, eqb, ltb, leb, ◌⊎◌, List, [], ◌∷◌, ◌++◌, map, length, get_or, take, drop, Some, None, Ok, Err, All, Option, Result, Ordering, sym, refl, ap, ◌∙◌, subst, ap₂, ⊎_elim, arith, length-append, length-drop, length-take, eqb-true}
+use Rattle.std.proofs.Common.{◌≡◌, ℕ, zero, suc, ◌+◌, ◌-◌, ◌<◌, ◌≤◌, Bool, true, false, cond, eqb, ltb, leb, List, [], ◌∷◌, ◌++◌, map, length, get_or, take, drop, All, sym, refl, ap, ◌∙◌, subst, ⊎_elim, arith, eqb-true}
 use lib.ListN.{length-map}
 use lib.Seq.{split_at}
 use borrow.Author.Tests.{eqb-false}
-use Rattle.std.specs.Ordering.{is_gt}
-use Rattle.std.proofs.lemmas.List.{map-append, nil_from_length}
-use Rattle.std.proofs.lemmas.List.Elements.{All-append, All-take, All-drop}
-use Rattle.std.proofs.lemmas.Bool.{cond-true, cond-false, ltb-true, ltb-false, lt-ltb, le-ltb, le-leb, lt-leb, cases_lt}
-use Rattle.supply.specs.declared.faults.Fault.{Fault}
-use Rattle.supply.specs.declared.faults.Fault.TheVariants.{Short}
-use Rattle.supply.specs.Stocks.{Stock, size_of}
-use Rattle.order.specs.Found.{first_not_below, found_at}
-use Rattle.node.specs.Shape.{Tree, node, none, number, row, kids, kid, mk, total, weigh}
-use Rattle.node.specs.Store.{Tables, Sized, Node, Linked, Holds, SameLink, numbers, times, first, second}
+use Rattle.std.proofs.lemmas.List.{map-append}
+use Rattle.std.proofs.lemmas.List.Elements.{All-append, All-take, All-drop, All-cons}
+use Rattle.std.proofs.lemmas.Bool.{cond-true, cond-false, lt-ltb, le-ltb, le-leb, lt-leb, cases_lt}
+use Rattle.supply.specs.Stocks.{Stock}
+use Rattle.node.specs.Shape.{Tree, node, none, number, row, kids, kid, mk, total}
+use Rattle.node.specs.Store.{Tables, Node, Linked, Holds, SameLink, numbers, times}
 use Rattle.node.specs.Laws.{occurs, below, same}
 use Rattle.node.specs.Rules.{Grown, whole, parted, settle, swap, put}
 use Rattle.node.specs.Sorted.{index}
-use Rattle.node.specs.Balance.{mark, Owns, Balanced, Beside}
-use Rattle.node.proofs.Balances.{mark_most, balanced_both, balanced_as, beside_both, beside_more, beside_sized}
+use Rattle.node.specs.Balance.{mark, Owns, Beside}
+use Rattle.node.proofs.Balances.{mark_most, beside_more}
 use Rattle.node.proofs.Frames.{height_suc, node_same, linked_same, frame_all}
-use Rattle.node.proofs.Numbers.{occurs_parts, occurs_below, occurs_root, same_self, same_other, same_at, tops_occur}
+use Rattle.node.proofs.Numbers.{occurs_parts, same_self, same_other}
 use Rattle.node.proofs.Weaves.{total_append, total_around, total_at}
 use Rattle.rules.specs.Held.{Held}
-use Rattle.rules.specs.Rules.{grow, run, rise, weighs}
-use Rattle.rules.proofs.Branches.{held_from, held_to, occurs_held, tops_parts}
-use Rattle.rules.proofs.Grows.{grow_agrees}
+use Rattle.rules.specs.Rules.{grow, run, rise}
+use Rattle.rules.proofs.Branches.{held_from, occurs_held, tops_parts}
 use Rattle.insertion.specs.Descent.{need_at, above_child}
-use Rattle.insertion.specs.Grew.{Grew, Inserted, answer, stem, Unchanged, seated, coming, members}
 
 -- ---- the rule at a node above the leaves
 
@@ -187,7 +181,7 @@ module _ {K V : Type 0} (T T₁ : Tables K V) (S : Stock) (h : ℕ) (t : Tree (K
       linked = subst (λ ns. Linked T₁ (number t) 0 ns) same_numbers (linked_same T T₁ (number t) 0 (numbers t) tops_linked w.linked);
       all = All-append (Holds T₁ (h - 1)) (take i ks) (k ∷ drop (suc i) ks)
           (others (take i ks) (λ x. omega (arith, sum x, owns.owned x)) (All-take (Holds T (h - 1)) i ks w.all))
-          (v, others (drop (suc i) ks) (λ x. omega (arith, sum x, owns.owned x)) (All-drop (Holds T (h - 1)) (suc i) ks w.all));
+          (All-cons (Holds T₁ (h - 1)) k (drop (suc i) ks) v (others (drop (suc i) ks) (λ x. omega (arith, sum x, owns.owned x)) (All-drop (Holds T (h - 1)) (suc i) ks w.all)));
     }
 
     pub sum_new : (x : ℕ) → occ x new ≡ occ x (take i ks) + (occurs x (h - 1) k + occ x (drop (suc i) ks))

@@ -1,23 +1,22 @@
 -- Insertion into a whole tree, from what came of the descent. Assumes nothing.
-use Rattle.std.proofs.Common.{◌≡◌, ℕ, suc, ◌+◌, ◌<◌, ◌≤◌, Bool, cond, leb, List, [], ◌∷◌, length, Some, None, Ok, Err, Option, Result, Ordering, sym, refl, ap, ◌∙◌, subst, ap₂, arith}
+use Rattle.std.proofs.Common.{◌≡◌, ℕ, suc, ◌+◌, ◌≤◌, Bool, leb, [], ◌∷◌, Some, None, Ok, Err, Option, Result, Ordering, sym, refl, ap, ◌∙◌, subst, ap₂, arith}
 use Rattle.std.specs.Ordering.{is_gt}
 use Rattle.std.proofs.lemmas.Bool.{cond-true, cond-false, le-leb, lt-leb}
 use Rattle.supply.specs.declared.faults.Fault.{Fault}
-use Rattle.supply.specs.Stocks.{Stock, size_of}
+use Rattle.supply.specs.Stocks.{Stock}
 use Rattle.node.specs.declared.nodes.NodeRef.{NodeRef}
 use Rattle.node.specs.Shape.{Tree, number, mk}
-use Rattle.node.specs.Store.{Tables, Sized, Holds, head_at, first, second}
-use Rattle.node.specs.Laws.{occurs, same}
+use Rattle.node.specs.Store.{Tables, head_at, first, second}
+use Rattle.node.specs.Laws.{occurs}
 use Rattle.node.specs.Rules.{Grown, whole, parted}
-use Rattle.node.specs.Balance.{mark, Owns, Rooted, Balanced, Beside}
+use Rattle.node.specs.Balance.{Owns, Rooted}
 use Rattle.node.proofs.Balances.{balanced_both, beside_both, beside_sized}
 use Rattle.node.proofs.Tabled.{err_not_ok, ok_same}
-use Rattle.rules.specs.Rules.{grow, run, planted, need, weighs}
-use Rattle.map.specs.Lookup.{seek}
+use Rattle.rules.specs.Rules.{grow, run, planted, need}
 use Rattle.insertion.specs.declared.descent.InsertResult.{InsertResult}
 use Rattle.insertion.specs.declared.descent.InsertResult.TheVariants.{Replaced, Fit, Split}
-use Rattle.insertion.specs.Grew.{Grew, answer, Unchanged}
-use Rattle.insertion.specs.Descent.{Descended, need_at}
+use Rattle.insertion.specs.Grew.{Grew, answer}
+use Rattle.insertion.specs.Descent.{Descended}
 use Rattle.insertion.specs.Roots.{root_of, Planted, Crowns, Entered}
 use Rattle.insertion.proofs.Descending.{Ran, grow_ran}
 use Rattle.insertion.proofs.Descended.{replaced_not_split, fit_not_split, split_same}

@@ -1,24 +1,21 @@
 -- What the tables hold once an entry is put into a node. Assumes nothing.
-use Rattle.std.proofs.Common.{◌≡◌, ℕ, zero, suc, ◌+◌, ◌-◌, ◌*◌, ◌<◌, ◌≤◌, min, Bool, true, false, cond, ltb, leb, ◌⊎◌, List, [], ◌∷◌, ◌++◌, map, length, get_or, take, drop, Ok, All, Result, sym, refl, ap, ◌∙◌, subst, ap₂, ⊎_elim, arith, length-append, length-drop, take-append-drop, length-take}
+use Rattle.std.proofs.Common.{◌≡◌, ℕ, suc, ◌+◌, ◌-◌, ◌*◌, ◌<◌, ◌≤◌, ltb, leb, List, [], ◌∷◌, ◌++◌, map, length, get_or, take, drop, Ok, All, Result, sym, refl, ap, ◌∙◌, subst, ⊎_elim, arith, length-drop, take-append-drop, length-take}
 use lib.Seq.{split_at}
 use Rattle.std.proofs.lemmas.Bool.{cond-true, cond-false, lt-ltb, le-ltb, le-leb, lt-leb, cases_lt}
 use Rattle.supply.specs.declared.faults.Fault.{Fault}
 use Rattle.supply.specs.Stocks.{Stock, size_of, Given}
 use Rattle.node.specs.Shape.{Tree, number, mk, total}
 use Rattle.node.specs.Store.{Tables, Sized, Holds, Changed, times}
-use Rattle.node.specs.Operations.{Fan}
 use Rattle.node.specs.Laws.{occurs, same}
 use Rattle.node.specs.Rules.{Grown, whole, parted, settle, put, swap}
-use Rattle.node.specs.Balance.{mark, Balanced, Beside}
+use Rattle.node.specs.Balance.{mark, Balanced}
 use Rattle.node.proofs.Adopts.{times_append}
-use Rattle.node.proofs.Balances.{mark_most, mark_unused, balanced_none, balanced_as, balanced_given, beside_changed}
-use Rattle.node.proofs.Numbers.{tops_occur, same_self, same_at}
+use Rattle.node.proofs.Balances.{mark_most, balanced_none, balanced_as, balanced_given, beside_changed}
+use Rattle.node.proofs.Numbers.{tops_occur, same_self}
 use Rattle.node.proofs.Weaves.{total_append}
 use Rattle.rules.specs.Held.{Held}
-use Rattle.rules.specs.Rules.{weighs}
 use Rattle.rules.proofs.Branches.{held_mk, held_to, occurs_held}
 use Rattle.map.specs.Inserts.{InsertsIn, InsertsLeft, InsertsRight}
-use Rattle.insertion.specs.declared.descent.InsertResult.{InsertResult}
 use Rattle.insertion.specs.declared.descent.InsertResult.TheVariants.{Fit, Split}
 use Rattle.insertion.specs.Grew.{Grew, seated, coming, members}
 use Rattle.insertion.specs.Descent.{Comes}

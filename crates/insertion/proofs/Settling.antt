@@ -1,29 +1,28 @@
 -- An entry put into a node with its children, which is split where it is full. Assumes nothing.
-use Rattle.std.proofs.Common.{◌≡◌, ℕ, zero, suc, ◌+◌, ◌-◌, ◌<◌, ◌≤◌, ◌⊎◌, List, [], ◌∷◌, ◌++◌, map, length, Ok, All, Result, sym, refl, ap, ◌∙◌, subst, ap₂, ⊎_elim, append_assoc, arith, length-append}
+use Rattle.std.proofs.Common.{◌≡◌, ℕ, ◌+◌, ◌-◌, ◌<◌, ◌≤◌, List, [], ◌∷◌, ◌++◌, map, length, Ok, All, Result, sym, ap, ◌∙◌, subst, arith, length-append}
 use lib.ListN.{length-map}
-use Rattle.std.proofs.lemmas.List.{nil_from_length, map-append}
-use Rattle.std.proofs.lemmas.List.Elements.{All-append}
+use Rattle.std.proofs.lemmas.List.{map-append}
+use Rattle.std.proofs.lemmas.List.Elements.{All-append, All-nil, All-cons, All-head, All-tail}
 use Rattle.supply.specs.declared.faults.Fault.{Fault}
 use Rattle.node.specs.Shape.{Tree, number, total}
 use Rattle.node.specs.Store.{Tables, Sized, Node, Linked, Changed, Holds, times}
-use Rattle.node.specs.Operations.{Fan, Children}
+use Rattle.node.specs.Operations.{Fan}
 use Rattle.node.specs.Laws.{occurs, below, same}
-use Rattle.node.proofs.Adopts.{times_append, all_front, all_back}
+use Rattle.node.proofs.Adopts.{times_append}
 use Rattle.node.proofs.Frames.{all_kept, linked_kept, linked_parts, linked_append}
-use Rattle.node.proofs.Numbers.{tops_occur, same_self, same_other, same_at}
-use Rattle.node.proofs.Weaves.{total_append}
+use Rattle.node.proofs.Numbers.{tops_occur}
 use Rattle.rules.specs.Held.{Held}
-use Rattle.rules.proofs.Branches.{tops_parts, tops_children, tops_inside}
+use Rattle.rules.proofs.Branches.{tops_parts, tops_inside}
 use Rattle.map.specs.Inserts.{Edges, InsertsIn, InsertsLeft, InsertsRight}
 
 -- parts of what holds of all
 pub alls_front : {X : Type 0} (P : X → Type 0) (xs ys : List X) → All P (xs ++ ys) → All P xs
-alls_front P [] ys a = tt
-alls_front P (x ∷ xs) ys a = (a.0, alls_front P xs ys a.1)
+alls_front P [] ys a = All-nil P
+alls_front P (x ∷ xs) ys a = All-cons P x xs (All-head P x (xs ++ ys) a) (alls_front P xs ys (All-tail P x (xs ++ ys) a))
 
 pub alls_back : {X : Type 0} (P : X → Type 0) (xs ys : List X) → All P (xs ++ ys) → All P ys
 alls_back P [] ys a = a
-alls_back P (x ∷ xs) ys a = alls_back P xs ys a.1
+alls_back P (x ∷ xs) ys a = alls_back P xs ys (All-tail P x (xs ++ ys) a)
 
 times_same : (x m : ℕ) → times x (m ∷ []) ≡ same x m
 times_same x m = omega arith

@@ -15,7 +15,7 @@ use Rattle.node.specs.Rules.{Grown, whole, parted, swap}
 use Rattle.node.specs.Balance.{Balanced, Beside}
 use Rattle.rules.specs.Rules.{weighs}
 use Rattle.insertion.specs.declared.descent.InsertResult.{InsertResult}
-use Rattle.insertion.specs.declared.descent.InsertResult.TheVariants.{Replaced, Fit, Split}
+use Rattle.insertion.specs.declared.descent.InsertResult.TheVariants.{Fit, Split}
 
 abbrev pub Inserted : {K V : Type 0} → Tables K V → ℕ → Grown (K × V) → Type 0
 Inserted T h (whole t) = Holds T h t

@@ -3,7 +3,7 @@
 --   Begins       the first entry of an empty place
 --   Crowns       a root put above two trees, with an entry between them
 --   Enters       an entry put into a tree: a value replaced, the entry put in by the rule, or refused with nothing changed
-use Rattle.std.specs.Prelude.{◌≡◌, ℕ, suc, ◌+◌, ◌<◌, ◌≤◌, List, [], ◌∷◌, length, Some, None, Ok, Err, Option, Result}
+use Rattle.std.specs.Prelude.{◌≡◌, ℕ, suc, ◌+◌, ◌<◌, ◌≤◌, [], ◌∷◌, length, Some, None, Ok, Err, Option, Result}
 use Rattle.std.specs.declared.cmp.Ordering.{Ordering}
 use Rattle.std.specs.Ordering.{is_gt}
 use Rattle.supply.specs.declared.faults.Fault.{Fault}

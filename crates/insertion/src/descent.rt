@@ -23,7 +23,7 @@ pub enum InsertResult<K, V> {
 /// A number, where `needed` may be taken.
 fn take_for<S: Supply>(supply: &mut S, needed: u16) -> Result<u16, Fault>
     requires { 0 < needed }
-    ensures { Spared (stock supply.old) (stock supply.new) needed result }
+    ensures { Spared (S.stock supply.old) (S.stock supply.new) needed result }
 {
     let allowance = supply.allowance();
     if allowance < needed {
@@ -47,7 +47,7 @@ fn settle<K: Copy, V: Copy, S: Supply>(
     above: u16,
 ) -> Result<InsertResult<K, V>, Fault>
     requires { above ≤ 6 }
-    ensures { Settles (tables heads.old keys.old values.old) (tables heads.new keys.new values.new) (stock supply.old) (stock supply.new) node.height node.node idx (key, val) edge above result }
+    ensures { Settles (tables heads.old keys.old values.old) (tables heads.new keys.new values.new) (S.stock supply.old) (S.stock supply.new) node.height node.node idx (key, val) edge above result }
 {
     let len = len_in(heads, keys, values, node.node)?;
     if len < CAPACITY {
@@ -85,7 +85,7 @@ pub(crate) fn insert_under<K: KeyOrder, V: Copy, S: Supply>(
     above: u16,
 ) -> Result<InsertResult<K, V>, Fault>
     requires { above + height ≤ 6 }
-    ensures { Descends (K.KeyOrder.compares key) (tables heads.old keys.old values.old) (tables heads.new keys.new values.new) (stock supply.old) (stock supply.new) height node (key, val) above result }
+    ensures { Descends (K.KeyOrder.compares key) (tables heads.old keys.old values.old) (tables heads.new keys.new values.new) (S.stock supply.old) (S.stock supply.new) height node (key, val) above result }
 {
     let (found, _) = search_in(heads, keys, values, node, &key)?;
     match found {

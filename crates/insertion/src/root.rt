@@ -22,7 +22,7 @@ pub fn insert_first<K: Copy, V: Copy, S: Supply>(
     key: K,
     val: V,
 ) -> Result<NodeRef, Fault>
-    ensures { Begins (tables heads.old keys.old values.old) (tables heads.new keys.new values.new) (stock supply.old) (stock supply.new) (key, val) result }
+    ensures { Begins (tables heads.old keys.old values.old) (tables heads.new keys.new values.new) (S.stock supply.old) (S.stock supply.new) (key, val) result }
 {
     let node = supply.take()?;
     new_leaf(heads, node)?;
@@ -43,7 +43,7 @@ fn grow_root<K: Copy, V: Copy, S: Supply>(
     right: u16,
 ) -> Result<NodeRef, Fault>
     requires { root.height ≤ 5 }
-    ensures { Crowns (tables heads.old keys.old values.old) (tables heads.new keys.new values.new) (stock supply.old) (stock supply.new) root.height root.node (key, val) right result }
+    ensures { Crowns (tables heads.old keys.old values.old) (tables heads.new keys.new values.new) (S.stock supply.old) (S.stock supply.new) root.height root.node (key, val) right result }
 {
     let node = supply.take()?;
     push_level(heads, root.node, node)?;
@@ -66,7 +66,7 @@ pub fn try_insert<K: KeyOrder, V: Copy, S: Supply>(
     key: K,
     val: V,
 ) -> Result<(NodeRef, Option<V>), Fault>
-    ensures { Enters (K.KeyOrder.compares key) (tables heads.old keys.old values.old) (tables heads.new keys.new values.new) (stock supply.old) (stock supply.new) root.height root.node (key, val) result }
+    ensures { Enters (K.KeyOrder.compares key) (tables heads.old keys.old values.old) (tables heads.new keys.new values.new) (S.stock supply.old) (S.stock supply.new) root.height root.node (key, val) result }
 {
     if root.height > MAX_HEIGHT {
         return Err(Fault::Breach);

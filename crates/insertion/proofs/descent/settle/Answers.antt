@@ -1,5 +1,5 @@
-use Rattle.std.proofs.Common.{◌≡◌, ℕ, ◌+◌, ◌-◌, ◌<◌, ◌≤◌, List, length, Ok, Err, sym, refl, ap, ◌∙◌, subst, arith}
-use Rattle.node.specs.Shape.{Tree, mk}
+use Rattle.std.proofs.Common.{◌<◌, ◌≤◌, length, Err, refl, ap, ◌∙◌, arith}
+use Rattle.node.specs.Shape.{mk}
 use Rattle.node.specs.Store.{tables}
 use Rattle.node.proofs.Tabled.{err_not_ok, ok_same}
 use Rattle.std.proofs.lemmas.Result.{err_from_is_err_and}

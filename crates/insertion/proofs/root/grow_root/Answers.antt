@@ -1,10 +1,7 @@
-use Rattle.std.proofs.Common.{◌≡◌, ℕ, suc, ◌+◌, ◌<◌, ◌≤◌, length, Ok, Err, sym, refl, ap, ◌∙◌, subst, arith}
-use Rattle.node.specs.Shape.{number}
+use Rattle.std.proofs.Common.{◌≡◌, suc, ◌+◌, Ok, sym, ap, ◌∙◌, arith}
 use Rattle.node.specs.Store.{tables}
-use Rattle.node.specs.Levels.{push_level}
 use Rattle.node.proofs.Frames.{holds_node}
 use Rattle.node.proofs.Tabled.{err_not_ok}
-use Rattle.map.specs.Inserts.{InsertsIn}
 use Rattle.insertion.specs.Roots.{Crowns}
 use Rattle.insertion.proofs.Crowning.{new_root, apart_from, crown_call}
 use Rattle.insertion.proofs.root.grow_root.Goals as goal

@@ -1,4 +1,4 @@
-use Rattle.std.proofs.Common.{◌≡◌, Ok, Err, sym, refl, ap, ◌∙◌, subst, arith}
+use Rattle.std.proofs.Common.{refl, arith}
 use Rattle.node.specs.Store.{tables}
 use Rattle.node.proofs.Tabled.{err_not_ok}
 use Rattle.insertion.proofs.Crowning.{first_leaf, first_call}
