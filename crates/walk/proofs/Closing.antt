@@ -52,7 +52,7 @@ module _ {K V : Type 0} (T : Tables K V) where
 module _ (H : List Head) where
   ups_first : (n m : ℕ) → All (λ x. x < length H) (ups H (suc n) m) → m < length H
   unfolding ups
-  ups_first n m a = a.0
+  ups_first n m a = a 0 m (omega arith)
 
   tops_zero : (m : ℕ) → m < length H → (head_in H m).parent ≡ 65535 → Tops H 0 m
   unfolding Tops

@@ -1,7 +1,7 @@
 -- A change elsewhere leaves a walk as it is. Assumes nothing.
 use Rattle.std.proofs.Common.{◌≡◌, ℕ, zero, suc, ◌+◌, ◌<◌, ◌≤◌, List, [], ◌∷◌, ◌++◌, length, None, All, sym, refl, ap, ◌∙◌, subst, append-nil, arith, length-append}
 use lib.ListN.{length-map}
-use Rattle.std.proofs.lemmas.List.Elements.{All-weaker}
+use Rattle.std.proofs.lemmas.List.Elements.{All-nil, All-cons, All-head, All-tail, All-weaker}
 use Rattle.std.proofs.lemmas.List.{nil_from_length}
 use Rattle.node.specs.declared.ends.Side.TheVariants.{First, Last}
 use Rattle.node.specs.Laws.{occurs, below}
@@ -18,8 +18,8 @@ use Rattle.walk.proofs.Windows.{shown_leaf, leaf_shown, shown_inner, shown_kids,
 
 among_both : {X : Type 0} (P Q : Bounds → X → Type 0) (R : X → Type 0) → ((c : Bounds) (k : X) → R k → P c k → Q c k) → (b : Bounds) (ks : List X) → All R ks → Among P b ks → Among Q b ks
 among_both P Q R f b [] r a = tt
-among_both P Q R f b (k ∷ []) r a = f b k r.0 a
-among_both P Q R f b (k ∷ (k' ∷ ks)) r a = (f (only First b) k r.0 a.0, among_both P Q R f (only Last b) (k' ∷ ks) r.1 a.1)
+among_both P Q R f b (k ∷ []) r a = f b k (All-head R k [] r) a
+among_both P Q R f b (k ∷ (k' ∷ ks)) r a = (f (only First b) k (All-head R k (k' ∷ ks) r) a.0, among_both P Q R f (only Last b) (k' ∷ ks) (All-tail R k (k' ∷ ks) r) a.1)
 
 module _ {K V : Type 0} (T T' : Tables K V) (same_size : length T'.heads ≡ length T.heads) where
   pane_same : (least : ℕ) (b : Bounds) (t : Tree (K × V)) → SameBody T T' (number t) → Pane T least b t → Pane T' least b t
@@ -105,9 +105,9 @@ module _ {K V : Type 0} (T : Tables K V) where
       }
 
   among_unbounded : {X : Type 0} (P : Bounds → X → Type 0) (Q : X → Type 0) → ((k : X) → P unbounded k → Q k) → (ks : List X) → Among P unbounded ks → All Q ks
-  among_unbounded P Q f [] a = tt
-  among_unbounded P Q f (k ∷ []) a = (f k a, tt)
-  among_unbounded P Q f (k ∷ (k' ∷ ks)) a = (f k a.0, among_unbounded P Q f (k' ∷ ks) a.1)
+  among_unbounded P Q f [] a = All-nil Q
+  among_unbounded P Q f (k ∷ []) a = All-cons Q k [] (f k a) (All-nil Q)
+  among_unbounded P Q f (k ∷ (k' ∷ ks)) a = All-cons Q k (k' ∷ ks) (f k a.0) (among_unbounded P Q f (k' ∷ ks) a.1)
 
   shown_holds : (least h : ℕ) (t : Tree (K × V)) → Shown T least unbounded h t → Whole T least h t
   shown_holds least zero t w = holds_leaf least t (shown_leaf T least unbounded t w)

@@ -1,5 +1,6 @@
 -- Nodes given back one after another, up to a root. Assumes nothing.
 use Rattle.std.proofs.Common.{◌≡◌, ℕ, zero, suc, ◌+◌, ◌-◌, ◌<◌, ◌≤◌, true, false, List, [], ◌∷◌, length, is_err, Ok, Err, All, Result, sym, refl, ap, ◌∙◌, subst, arith}
+use Rattle.std.proofs.lemmas.List.Elements.{All-tail}
 use Rattle.std.proofs.lemmas.Result.{IfOk-from_err, IfOk-weaker}
 use Rattle.supply.specs.declared.faults.Fault.{Fault}
 use Rattle.supply.specs.declared.faults.Fault.TheVariants.{Breach}
@@ -40,7 +41,7 @@ module _ (H : List Head) where
   leaves_outside S S' n m l o = record {
     fault = refl;
     given = tt;
-    whole = λ a b. absurd (let c = subst (λ xs. All (λ x. x < length H) xs) (ups_more n m l) a in omega (arith, c.0));
+    whole = λ a b. absurd (let c = subst (λ xs. All (λ x. x < length H) xs) (ups_more n m l) a in omega (arith, c 0 m (omega arith)));
   }
 
   pub leaves_declined : (S S' : Stock) (n m : ℕ) (r : Result (Unit {0}) Fault) → 0 < n → is_err r ≡ true → Breached r → is_out S m ≡ false → Leaves S S' H n m r
@@ -58,7 +59,7 @@ module _ (H : List Head) where
         fault = w.fault;
         given = IfOk-weaker r (λ _. Balanced S₁ S' f (λ _. 0)) (λ _. Balanced S S' (λ x. times x (ups H n m)) (λ _. 0))
             (λ _ b. subst (λ xs. Balanced S S' (λ x. times x xs) (λ _. 0)) (sym u) (balanced_both S S₁ S' (λ x. same x m + f x) f (λ _. 0) (balanced_returned S S₁ m f e) b)) w.given;
-        whole = λ a b. w.whole (subst (λ xs. All (λ x. x < length H) xs) u a).1 (λ x. omega (arith, b x, ap (times x) u, (balanced_returned S S₁ m (λ _. 0) e).marks x));
+        whole = λ a b. w.whole (All-tail (λ x. x < length H) m (ups H (n - 1) (head_in H m).parent) (subst (λ xs. All (λ x. x < length H) xs) u a)) (λ x. omega (arith, b x, ap (times x) u, (balanced_returned S S₁ m (λ _. 0) e).marks x));
       }
 
   -- ---- up to the root

@@ -1,6 +1,7 @@
 -- A whole tree as a walk. Assumes nothing.
 use Rattle.std.proofs.Common.{◌≡◌, ℕ, zero, suc, ◌+◌, ◌-◌, ◌≤◌, List, [], ◌∷◌, ◌++◌, length, Some, None, Ok, Err, All, Option, Result, sym, refl, ap, ◌∙◌, subst, append-nil, arith, MatchResult}
 use Rattle.std.specs.Result.{result_or}
+use Rattle.std.proofs.lemmas.List.Elements.{All-head, All-tail}
 use Rattle.supply.specs.declared.faults.Fault.{Fault}
 use Rattle.supply.specs.declared.faults.Fault.TheVariants.{Breach}
 use Rattle.supply.specs.Stocks.{Stock}
@@ -32,8 +33,8 @@ unbounded = bounds None None
 module _ {X : Type 0} (P : Bounds → X → Type 0) where
   among_unbounded : (ks : List X) → All (P unbounded) ks → Among P unbounded ks
   among_unbounded [] a = tt
-  among_unbounded (k ∷ []) a = a.0
-  among_unbounded (k ∷ (k' ∷ ks)) a = (a.0, among_unbounded (k' ∷ ks) a.1)
+  among_unbounded (k ∷ []) a = All-head (P unbounded) k [] a
+  among_unbounded (k ∷ (k' ∷ ks)) a = (All-head (P unbounded) k (k' ∷ ks) a, among_unbounded (k' ∷ ks) (All-tail (P unbounded) k (k' ∷ ks) a))
 
 none_some : {X : Type 0} (x : X) → ◌≡◌ {A = Option X} None (Some x) → ⊥
 none_some x e = let z : ◌≡◌ {A = ℕ} 0 1 = cc in omega arith

@@ -1,7 +1,7 @@
 -- What steps hand out. Assumes nothing.
 use Rattle.std.proofs.Common.{◌≡◌, ℕ, zero, suc, ◌+◌, ◌≤◌, ◌⊎◌, List, [], ◌∷◌, ◌++◌, map, reverse, length, replicate, Some, None, All, Option, sym, refl, ap, ◌∙◌, subst, ap₂, inl, inr, append_assoc, append-nil, arith}
 use lib.ListN.{length-map}
-use Rattle.std.proofs.lemmas.List.Elements.{All-append}
+use Rattle.std.proofs.lemmas.List.Elements.{All-nil, All-cons, All-head, All-tail, All-append}
 use Rattle.std.proofs.lemmas.List.{nil_from_length, map-append, reverse-append, length_push}
 use Rattle.node.specs.declared.ends.Side.{Side}
 use Rattle.node.specs.declared.ends.Side.TheVariants.{First, Last}
@@ -61,15 +61,15 @@ module _ {X : Type 0} where
   map_cons f Last x xs = map-append f xs (x ∷ [])
 
   pub all_cons : (P : X → Type 0) (s : Side) (x : X) (xs : List X) → P x → All P xs → All P (cons s x xs)
-  all_cons P First x xs p a = (p, a)
-  all_cons P Last x xs p a = All-append P xs (x ∷ []) a (p, tt)
+  all_cons P First x xs p a = All-cons P x xs p a
+  all_cons P Last x xs p a = All-append P xs (x ∷ []) a (All-cons P x [] p (All-nil P))
 
   all_unpush : (P : X → Type 0) (xs : List X) (x : X) → All P (xs ++ x ∷ []) → P x × All P xs
-  all_unpush P [] x a = (a.0, tt)
-  all_unpush P (y ∷ xs) x a = let b = all_unpush P xs x a.1 in (b.0, (a.0, b.1))
+  all_unpush P [] x a = (All-head P x [] a, All-nil P)
+  all_unpush P (y ∷ xs) x a = let b = all_unpush P xs x (All-tail P y (xs ++ x ∷ []) a) in (b.0, All-cons P y xs (All-head P y (xs ++ x ∷ []) a) b.1)
 
   pub all_uncons : (P : X → Type 0) (s : Side) (x : X) (xs : List X) → All P (cons s x xs) → P x × All P xs
-  all_uncons P First x xs a = a
+  all_uncons P First x xs a = (All-head P x xs a, All-tail P x xs a)
   all_uncons P Last x xs a = all_unpush P xs x a
 
   pub total_cons : (f : X → ℕ) (s : Side) (x : X) (xs : List X) → total f (cons s x xs) ≡ f x + total f xs

@@ -1,6 +1,6 @@
 -- The way of a step through a tree shown between two edges. Assumes nothing.
 use Rattle.std.proofs.Common.{◌≡◌, ℕ, zero, suc, ◌+◌, ◌-◌, ◌<◌, ◌≤◌, List, [], ◌∷◌, ◌++◌, map, length, Some, None, All, sym, refl, ap, ◌∙◌, subst, ap₂, inl, inr, arith}
-use Rattle.std.proofs.lemmas.List.Elements.{All-append}
+use Rattle.std.proofs.lemmas.List.Elements.{All-nil, All-cons, All-append}
 use Rattle.std.proofs.lemmas.List.{nil_from_length}
 use Rattle.node.specs.declared.head.Head.{Head}
 use Rattle.node.specs.declared.ends.Handle.{Handle}
@@ -51,7 +51,7 @@ module _ {K V : Type 0} (T : Tables K V) (s : Side) where
     i = edge_at s (length w.pane.us) (length (row t));
     top_is = refl;
     gone = λ x. omega (arith, occurs_parts x zero t);
-    lie = (w.pane.node_is.inside, tt);
+    lie = All-cons (λ x. x < length Hs) (number t) [] w.pane.node_is.inside (All-nil (λ x. x < length Hs));
     tops = λ n v. let z : n ≡ 0 + n = omega arith in subst (λ k. Tops Hs k (number t)) z v;
     past = λ o. (pane_edged T least b t w.pane s, pane_past T least b t w.pane s o q, tt);
   }
@@ -70,7 +70,7 @@ module _ {K V : Type 0} (T : Tables K V) (s : Side) where
         i = i;
         top_is = top;
         gone = λ y. omega (arith, ap (times y) more, times_append y (ups Hs (suc h) e.node) (number t ∷ []), x.gone y, occurs_parts y (suc h) t, ap (total (occurs y h)) q, total_cons (occurs y h) s k []);
-        lie = subst (λ xs. All (λ x. x < length Hs) xs) (sym more) (All-append (λ x. x < length Hs) (ups Hs (suc h) e.node) (number t ∷ []) x.lie (w.pane.node_is.inside, tt));
+        lie = subst (λ xs. All (λ x. x < length Hs) xs) (sym more) (All-append (λ x. x < length Hs) (ups Hs (suc h) e.node) (number t ∷ []) x.lie (All-cons (λ x. x < length Hs) (number t) [] w.pane.node_is.inside (All-nil (λ x. x < length Hs))));
         tops = λ n v.
             let z : h + suc n ≡ suc h + n = omega arith in
             subst (λ j. Tops Hs j e.node) z (x.tops (suc n) (tops_up n (number k) (number t) kin l.parent_is (omega (arith, w.pane.node_is.inside, sz.most)) v));
@@ -182,7 +182,7 @@ module _ {K V : Type 0} (T : Tables K V) (s : Side) where
         entry = pane_entry T least b t p s x es q;
         entry_at = ahead_length s p.us es;
         gone = λ y. omega (arith, occurs_parts y zero t, occurs_parts y zero (mk (number t) es (kids t)));
-        lie = tt;
+        lie = All-nil (λ x. x < length Hs);
         f = g;
         next_here = λ _. refl;
         next_below = λ j z. absurd (omega arith);

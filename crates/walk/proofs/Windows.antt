@@ -1,5 +1,6 @@
 -- A tree shown between two edges. Assumes nothing.
 use Rattle.std.proofs.Common.{◌≡◌, ℕ, zero, suc, ◌+◌, ◌-◌, ◌<◌, List, [], ◌∷◌, ◌++◌, length, None, All, Option, refl, subst, arith}
+use Rattle.std.proofs.lemmas.List.Elements.{All-nil, All-cons}
 use Rattle.node.specs.declared.ends.Handle.{Handle}
 use Rattle.node.specs.declared.ends.Side.{Side}
 use Rattle.node.specs.declared.ends.Side.TheVariants.{First, Last}
@@ -125,9 +126,9 @@ put_other Last e b = refl
 -- ---- every child
 
 pub among_all : {X : Type 0} (P : Bounds → X → Type 0) (Q : X → Type 0) → ((c : Bounds) (k : X) → P c k → Q k) → (b : Bounds) (ks : List X) → Among P b ks → All Q ks
-among_all P Q f b [] a = tt
-among_all P Q f b (k ∷ []) a = (f b k a, tt)
-among_all P Q f b (k ∷ (k' ∷ ks)) a = (f (only First b) k a.0, among_all P Q f (only Last b) (k' ∷ ks) a.1)
+among_all P Q f b [] a = All-nil Q
+among_all P Q f b (k ∷ []) a = All-cons Q k [] (f b k a) (All-nil Q)
+among_all P Q f b (k ∷ (k' ∷ ks)) a = All-cons Q k (k' ∷ ks) (f (only First b) k a.0) (among_all P Q f (only Last b) (k' ∷ ks) a.1)
 
 module _ {K V : Type 0} (T : Tables K V) where
   fanned_leaf : (t : Tree (K × V)) → length (kids t) ≡ 0 → Fanned zero t

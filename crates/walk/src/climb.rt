@@ -109,7 +109,7 @@ pub(crate) fn leave<S: Supply>(
     node: u16,
     count: u16,
 ) -> Result<(), Fault>
-    ensures { Leaves (stock supply.old) (stock supply.new) heads.now count node result }
+    ensures { Leaves (S.stock supply.old) (S.stock supply.new) heads.now count node result }
 {
     if count == 0 {
         return Ok(());
@@ -143,7 +143,7 @@ fn depth(heads: &[Head], node: u16, level: u16) -> Result<u16, Fault>
 
 /// Gives back `node` and all nodes above it, where it is a node.
 pub(crate) fn clear<S: Supply>(heads: &[Head], supply: &mut S, node: u16) -> Result<(), Fault>
-    ensures { Clears (stock supply.old) (stock supply.new) heads.now node result }
+    ensures { Clears (S.stock supply.old) (S.stock supply.new) heads.now node result }
 {
     if node == NULL {
         return Ok(());

@@ -91,7 +91,7 @@ impl Walk {
         supply: &mut S,
         side: Side,
     ) -> Result<Option<(K, V)>, Fault>
-        ensures { Stepped side (tables heads.now keys.now values.now) (stock supply.old) (stock supply.new) self.old self.new result }
+        ensures { Stepped side (tables heads.now keys.now values.now) (S.stock supply.old) (S.stock supply.new) self.old self.new result }
     {
         if self.left == 0 {
             return Ok(None);
@@ -113,7 +113,7 @@ impl Walk {
         values: &[V],
         supply: &mut S,
     ) -> Result<Option<(K, V)>, Fault>
-        ensures { Stepped Side.First (tables heads.now keys.now values.now) (stock supply.old) (stock supply.new) self.old self.new result }
+        ensures { Stepped Side.First (tables heads.now keys.now values.now) (S.stock supply.old) (S.stock supply.new) self.old self.new result }
     {
         self.step(heads, keys, values, supply, Side::First)
     }
@@ -126,7 +126,7 @@ impl Walk {
         values: &[V],
         supply: &mut S,
     ) -> Result<Option<(K, V)>, Fault>
-        ensures { Stepped Side.Last (tables heads.now keys.now values.now) (stock supply.old) (stock supply.new) self.old self.new result }
+        ensures { Stepped Side.Last (tables heads.now keys.now values.now) (S.stock supply.old) (S.stock supply.new) self.old self.new result }
     {
         self.step(heads, keys, values, supply, Side::Last)
     }
@@ -165,7 +165,7 @@ impl Walk {
         supply: &mut S,
     ) -> Result<usize, Fault>
         requires { self.old.left ≤ 45056 }
-        ensures { Emptied (tables heads.now keys.now values.now) (stock supply.old) (stock supply.new) self.old self.new result }
+        ensures { Emptied (tables heads.now keys.now values.now) (S.stock supply.old) (S.stock supply.new) self.old self.new result }
     {
         let mut dropped = 0;
         while self.left > 0 {
@@ -183,7 +183,7 @@ impl Walk {
         values: &[V],
         supply: &mut S,
     ) -> Result<usize, Fault>
-        ensures { Closes (tables heads.now keys.now values.now) (stock supply.old) (stock supply.new) self result }
+        ensures { Closes (tables heads.now keys.now values.now) (S.stock supply.old) (S.stock supply.new) self result }
     {
         if !fit(self.left, heads.len()) {
             return Err(Fault::Breach);
@@ -204,7 +204,7 @@ pub fn release<K: Copy, V: Copy, S: Supply>(
     root: Option<NodeRef>,
     count: usize,
 ) -> Result<usize, Fault>
-    ensures { Releases (tables heads.now keys.now values.now) (stock supply.old) (stock supply.new) root count result }
+    ensures { Releases (tables heads.now keys.now values.now) (S.stock supply.old) (S.stock supply.new) root count result }
 {
     Walk::open(heads, keys, values, root, count)?.close(heads, keys, values, supply)
 }

@@ -22,13 +22,13 @@ returns-in-Some t c =
       whole = λ n m i l w. find_here c.args.side c.args.heads.now c.args.level c.args.at c.in_ok-len.len c.in-Some.idx n m i st.1 c.in-Some.ensures w;
     }
 
-pub returns-then-level-eq-MAX-HEIGHT : goal.returns-then-level-eq-MAX-HEIGHT
-returns-then-level-eq-MAX-HEIGHT t c =
+pub returns-then-level-eq-MAX_HEIGHT : goal.returns-then-level-eq-MAX_HEIGHT
+returns-then-level-eq-MAX_HEIGHT t c =
     let st = c.in_ok-len.ensures in
     record {
       fault = refl;
       lies = tt;
-      whole = find_top c.args.side c.args.heads.now c.args.level c.args.at c.in_ok-len.len _ c.if-level-eq-MAX-HEIGHT.true st.1 c.in_default.ensures;
+      whole = find_top c.args.side c.args.heads.now c.args.level c.args.at c.in_ok-len.len _ c.if-level-eq-MAX_HEIGHT.true st.1 c.in_default.ensures;
     }
 
 pub returns : goal.returns
