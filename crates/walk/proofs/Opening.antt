@@ -1,5 +1,5 @@
 -- A whole tree as a walk. Assumes nothing.
-use Rattle.std.proofs.Common.{◌≡◌, ℕ, zero, suc, ◌+◌, ◌-◌, ◌≤◌, List, [], ◌∷◌, ◌++◌, length, Some, None, Ok, Err, All, Option, Result, sym, refl, ap, ◌∙◌, subst, append-nil, arith, MatchResult}
+use Rattle.std.proofs.Common.{◌≡◌, ℕ, zero, suc, ◌≤◌, List, [], ◌∷◌, ◌++◌, length, Some, None, Ok, Err, All, Option, Result, sym, refl, ap, ◌∙◌, subst, append-nil, arith, MatchResult}
 use Rattle.std.specs.Result.{result_or}
 use Rattle.std.proofs.lemmas.List.Elements.{All-head, All-tail}
 use Rattle.supply.specs.declared.faults.Fault.{Fault}

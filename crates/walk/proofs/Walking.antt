@@ -1,5 +1,5 @@
 -- The way of a step through a tree shown between two edges. Assumes nothing.
-use Rattle.std.proofs.Common.{◌≡◌, ℕ, zero, suc, ◌+◌, ◌-◌, ◌<◌, ◌≤◌, List, [], ◌∷◌, ◌++◌, map, length, Some, None, All, sym, refl, ap, ◌∙◌, subst, ap₂, inl, inr, arith}
+use Rattle.std.proofs.Common.{◌≡◌, ℕ, zero, suc, ◌+◌, ◌<◌, ◌≤◌, List, [], ◌∷◌, ◌++◌, map, length, Some, None, All, sym, refl, ap, ◌∙◌, subst, ap₂, inl, inr, arith}
 use Rattle.std.proofs.lemmas.List.Elements.{All-nil, All-cons, All-append}
 use Rattle.std.proofs.lemmas.List.{nil_from_length}
 use Rattle.node.specs.declared.head.Head.{Head}
@@ -7,7 +7,7 @@ use Rattle.node.specs.declared.ends.Handle.{Handle}
 use Rattle.node.specs.declared.ends.Side.{Side}
 use Rattle.node.specs.Counts.{Stands}
 use Rattle.node.specs.Ends.{end_below, end_leaf, end_edge, Chain}
-use Rattle.node.specs.Laws.{occurs, same}
+use Rattle.node.specs.Laws.{occurs}
 use Rattle.node.specs.Links.{edge}
 use Rattle.node.specs.Shape.{Tree, Forest, node, none, more, trees, forest, number, row, kids, mk, total}
 use Rattle.node.specs.Store.{Tables, Sized, Node, numbers, head_in, times}

@@ -1,5 +1,5 @@
 -- A tree shown between two edges. Assumes nothing.
-use Rattle.std.proofs.Common.{◌≡◌, ℕ, zero, suc, ◌+◌, ◌-◌, ◌<◌, List, [], ◌∷◌, ◌++◌, length, None, All, Option, refl, subst, arith}
+use Rattle.std.proofs.Common.{◌≡◌, ℕ, zero, suc, ◌<◌, List, [], ◌∷◌, ◌++◌, length, None, All, Option, refl, subst, arith}
 use Rattle.std.proofs.lemmas.List.Elements.{All-nil, All-cons}
 use Rattle.node.specs.declared.ends.Handle.{Handle}
 use Rattle.node.specs.declared.ends.Side.{Side}
@@ -7,7 +7,7 @@ use Rattle.node.specs.declared.ends.Side.TheVariants.{First, Last}
 use Rattle.node.specs.Shape.{Tree, row, kids}
 use Rattle.node.specs.Store.{Tables}
 use Rattle.walk.specs.Steps.{other, cons, Fanned}
-use Rattle.walk.specs.Window.{Bounds, bounds, bound, put, only, Pane, Leafs, Inner, Among, Shown}
+use Rattle.walk.specs.Window.{Bounds, bound, put, only, Pane, Leafs, Inner, Among, Shown}
 
 -- ---- bounds
 

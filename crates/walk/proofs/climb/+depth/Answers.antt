@@ -6,7 +6,7 @@ pub returns-then-node-heads : goal.returns-then-node-heads
 returns-then-node-heads t c = record { fault = refl; low = tt; whole = λ n l w. absurd (omega (arith, tops_inside c.args.heads.now n c.args.node w)) }
 
 pub returns-then-parent : goal.returns-then-parent
-returns-then-parent t c = record { fault = tt; low = c.requires; whole = deep_here c.args.heads.now c.args.level c.args.node c.if-parent.true }
+returns-then-parent t c = record { fault = tt; low = omega (arith, c.requires); whole = deep_here c.args.heads.now c.args.level c.args.node c.if-parent.true }
 
 pub returns-then-level-eq-MAX_HEIGHT : goal.returns-then-level-eq-MAX_HEIGHT
 returns-then-level-eq-MAX_HEIGHT t c = record {
