@@ -2,7 +2,7 @@
 use Rattle.std.proofs.Common.{◌≡◌, ℕ, zero, suc, ◌+◌, ◌-◌, ◌*◌, ◌<◌, ◌≤◌, Bool, List, [], ◌∷◌, ◌++◌, map, length, get_or, take, drop, Ok, Err, All, Result, Ordering, sym, refl, ap, ◌∙◌, subst, ap₂, ⊎_elim, append_assoc, arith, length-append, length-drop, take-append-drop, length-take}
 use lib.ListN.{length-map}
 use lib.Seq.{split_at}
-use Rattle.std.proofs.lemmas.List.Elements.{All-append, All-take, All-drop}
+use Rattle.std.proofs.lemmas.List.Elements.{All-nil, All-cons, All-append, All-take, All-drop}
 use Rattle.std.proofs.lemmas.List.{map-append, get_or-append-add}
 use Rattle.std.proofs.lemmas.Bool.{cases_eq}
 use Rattle.supply.specs.declared.faults.Fault.{Fault}
@@ -115,7 +115,7 @@ module _ {K V : Type 0} (T T₁ : Tables K V) (fresh : ℕ → ℕ) (t : Tree (K
       (λ _. refl) (λ l. absurd (omega arith))
       (record { leaf = λ _. refl; inner = λ l. absurd (omega arith) })
       other₀
-      (record { inside = tt; once = λ x. omega arith })
+      (record { inside = All-nil (λ c'. c' < length T.heads); once = λ x. omega arith })
 
 module _ {K V : Type 0} (place : K → Ordering) (T T₁ : Tables K V) (S : Stock) (fresh : ℕ → ℕ) (t : Tree (K × V)) (i : ℕ) (sized : Sized T) (w : Holds T zero t) (z : Holds T zero (spine fresh zero))
     (apart : (x : ℕ) → occurs x zero t + occurs x zero (spine {E = K × V} fresh zero) ≤ mark S x) (at_i : i ≡ index (beneath place) (row t))
@@ -282,7 +282,7 @@ module _ {K V : Type 0} (T : Tables K V) (S : Stock) (fresh : ℕ → ℕ) (h : 
           (All-append (Holds T₂ h) A (k' ∷ [])
           (beside_all T₁ T₂ S f₂ h D.beside A (λ x. omega (arith, sum x))
           (beside_all T T₁ S f₁ h one A (λ x. omega (arith, sum x, tops_occur x h B)) (All-take (Holds T h) i (kids t) (holds_kids T h t w))))
-          (D.left, tt))
+          (All-cons (Holds T₂ h) k' [] D.left (All-nil (Holds T₂ h))))
 
       r' : Tree (K × V)
       r' = cut_right fresh b h k
@@ -315,7 +315,7 @@ module _ {K V : Type 0} (T : Tables K V) (S : Stock) (fresh : ℕ → ℕ) (h : 
           (node_same T₁ T₂ n (drop i (row t)) (number v ∷ ls) D.beside.heads_len (D.beside.bodies n (omega (arith, sum n, same_self n, mark_most S n))) inner_moved.2))
           (ap suc (sym (length-map B number) ∙ length_ls))
           (subst (λ ns. Linked T₂ n 0 ns) (sym right_numbers) (linked_append T₂ n 0 (number v ∷ []) ls first_linked rest_linked))
-          (D.right, rest_held)
+          (All-cons (Holds T₂ h) r' B D.right rest_held)
 
       root_link : (x : ℕ) → 0 < same x m + same x n → SameLink T T₂ x
       root_link x l =

@@ -1,5 +1,6 @@
 -- A spine taken from the supply. Assumes nothing.
 use Rattle.std.proofs.Common.{◌≡◌, ℕ, zero, suc, ◌+◌, ◌<◌, ◌≤◌, false, cond, eqb, List, [], ◌∷◌, length, take, set, sym, refl, ap, ◌∙◌, subst, ap₂, arith, length-set, get_or-set_other, get_or-set_same}
+use Rattle.std.proofs.lemmas.List.Elements.{All-nil, All-cons}
 use Rattle.std.proofs.lemmas.Bool.Decides.{nat_tests}
 use Rattle.supply.specs.Stocks.{Stock, is_out, Given}
 use Rattle.node.specs.declared.head.Head.{Head}
@@ -134,7 +135,7 @@ module _ {K V : Type 0} where
           (subst (λ n. Node T₂ m [] (n ∷ [])) (sym w.top) (push_node H₁ ks vs m m-in c child_in new_other room))
           refl
           (subst (λ n. Linked T₂ m 0 (n ∷ [])) (sym w.top) (push_linked H₁ ks vs m m-in c child_in new_other room))
-          (low_held, tt)
+          (All-cons (Holds T₂ h) low [] low_held (All-nil (Holds T₂ h)))
 
       pub spine_more : SpineTaken (tables H ks vs) T₂ S S₂ (suc h) m
       spine_more = record {

@@ -14,7 +14,7 @@ pub(crate) fn take_spine<K, V, S: Supply>(
     supply: &mut S,
     height: u16,
 ) -> Result<u16, Fault>
-    ensures { TakesSpine K V heads.old heads.new (stock supply.old) (stock supply.new) height result }
+    ensures { TakesSpine K V heads.old heads.new (S.stock supply.old) (S.stock supply.new) height result }
 {
     if height == 0 {
         let leaf = supply.take()?;

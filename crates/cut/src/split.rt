@@ -23,7 +23,7 @@ pub struct Cut {
 
 /// Refuses where fewer than `needed` numbers may be taken.
 fn spare<S: Supply>(supply: &S, needed: u16) -> Result<(), Fault>
-    ensures { Spared (stock supply.now) needed result }
+    ensures { Spared (S.stock supply.now) needed result }
 {
     let allowance = supply.allowance();
     if allowance < needed {
@@ -70,7 +70,7 @@ fn halve<K: KeyOrder, V: Copy, Q: Query<K>, S: Supply>(
     root: NodeRef,
     query: &Q,
 ) -> Result<(NodeRef, NodeRef, usize), Fault>
-    ensures { Halves (Q.Placing.places query.now) (tables heads.old keys.old values.old) (tables heads.new keys.new values.new) (stock supply.old) (stock supply.new) root.height root.node result }
+    ensures { Halves (Q.Placing.places query.now) (tables heads.old keys.old values.old) (tables heads.new keys.new values.new) (S.stock supply.old) (S.stock supply.new) root.height root.node result }
 {
     if root.height > MAX_HEIGHT {
         return Err(Fault::Breach);
@@ -98,7 +98,7 @@ pub fn split_off<K: KeyOrder, V: Copy, Q: Query<K>, S: Supply>(
     count: usize,
     query: &Q,
 ) -> Result<Cut, Fault>
-    ensures { SplitsOff (Q.Placing.places query.now) (tables heads.old keys.old values.old) (tables heads.new keys.new values.new) (stock supply.old) (stock supply.new) root.height root.node count result }
+    ensures { SplitsOff (Q.Placing.places query.now) (tables heads.old keys.old values.old) (tables heads.new keys.new values.new) (S.stock supply.old) (S.stock supply.new) root.height root.node count result }
 {
     if count == 0 {
         return Ok(Cut {

@@ -1,7 +1,7 @@
 -- The border mended from a node down: the two children beside it joined, and the border one mended. Assumes nothing.
 use Rattle.std.proofs.Common.{◌≡◌, ℕ, zero, suc, ◌+◌, ◌-◌, ◌<◌, ◌≤◌, List, [], ◌∷◌, ◌++◌, map, length, take, drop, Ok, Err, All, Result, sym, refl, ap, ◌∙◌, subst, ap₂, ⊎_elim, append_assoc, arith, length-append, length-drop, take-append-drop, length-take}
 use lib.Seq.{drop-nil}
-use Rattle.std.proofs.lemmas.List.Elements.{All-append}
+use Rattle.std.proofs.lemmas.List.Elements.{All-nil, All-cons, All-head, All-tail, All-append}
 use Rattle.std.proofs.lemmas.List.{nil_from_length, map-append}
 use Rattle.std.proofs.lemmas.Bool.{cases_eq}
 use Rattle.supply.specs.declared.faults.Fault.{Fault}
@@ -31,11 +31,11 @@ use Rattle.repair.proofs.Pairs.{alls_front, alls_back}
 
 module _ {K V : Type 0} (T T' : Tables K V) (S : Stock) (f : ℕ → ℕ) (h : ℕ) (b : Beside T T' S f) where
   pub beside_all : (ts : List (Tree (K × V))) → ((x : ℕ) → f x + total (occurs x h) ts ≤ mark S x) → All (Holds T h) ts → All (Holds T' h) ts
-  beside_all [] e w = tt
-  beside_all (t ∷ ts) e w = (
-    beside_holds T T' S f h t b (λ x. omega (arith, e x)) w.0,
-    beside_all ts (λ x. omega (arith, e x)) w.1,
-  )
+  beside_all [] e w = All-nil (Holds T' h)
+  beside_all (t ∷ ts) e w =
+      All-cons (Holds T' h) t ts
+      (beside_holds T T' S f h t b (λ x. omega (arith, e x)) (All-head (Holds T h) t ts w))
+      (beside_all ts (λ x. omega (arith, e x)) (All-tail (Holds T h) t ts w))
 
 module _ {K V : Type 0} (T T' : Tables K V) (S S' : Stock) (h p : ℕ) (es : List (K × V)) (A : List (Tree (K × V))) (k : Tree (K × V)) (B : List (Tree (K × V))) (k' : Tree (K × V))
     (o : Owns T S (suc h) (mk p es (A ++ k ∷ B))) where
@@ -61,7 +61,7 @@ module _ {K V : Type 0} (T T' : Tables K V) (S S' : Stock) (h p : ℕ) (es : Lis
   kid_owns = record {
     sized = o.sized;
     fits = o.fits;
-    holds = (alls_back (Holds T h) A (k ∷ B) all_kids).0;
+    holds = All-head (Holds T h) k B (alls_back (Holds T h) A (k ∷ B) all_kids);
     owned = λ x. omega (arith, sum x);
   }
 
@@ -87,7 +87,7 @@ module _ {K V : Type 0} (T T' : Tables K V) (S S' : Stock) (h p : ℕ) (es : Lis
         (subst (λ ns. Linked T' p 0 ns) (sym names) (linked_same T T' p 0 (map number (kids old)) links (holds_linked T h old o.holds)))
         (All-append (Holds T' h) A (k' ∷ B)
         (beside_all T T' S (λ x. occurs x h k) h v.beside A (λ x. omega (arith, sum x)) (alls_front (Holds T h) A (k ∷ B) all_kids))
-        (v.holds, beside_all T T' S (λ x. occurs x h k) h v.beside B (λ x. omega (arith, sum x)) (alls_back (Holds T h) A (k ∷ B) all_kids).1))
+        (All-cons (Holds T' h) k' B v.holds (beside_all T T' S (λ x. occurs x h k) h v.beside B (λ x. omega (arith, sum x)) (All-tail (Holds T h) k B (alls_back (Holds T h) A (k ∷ B) all_kids)))))
 
     pub kid_became : Became T T' S S' (suc h) old (suc h) new
     kid_became = record {

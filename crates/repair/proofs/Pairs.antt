@@ -2,7 +2,7 @@
 use Rattle.std.proofs.Common.{◌≡◌, ℕ, zero, suc, ◌+◌, ◌-◌, ◌<◌, ◌≤◌, List, [], ◌∷◌, ◌++◌, map, length, get_or, take, drop, Ok, All, Result, sym, refl, ap, ◌∙◌, subst, arith, length-append, length-drop, take-append-drop, length-take}
 use lib.ListN.{length-map}
 use lib.Seq.{split_at}
-use Rattle.std.proofs.lemmas.List.Elements.{All-append, All-take, All-drop}
+use Rattle.std.proofs.lemmas.List.Elements.{All-nil, All-cons, All-head, All-tail, All-append, All-take, All-drop}
 use Rattle.std.proofs.lemmas.List.{nil_from_length, map-append}
 use Rattle.supply.specs.declared.faults.Fault.{Fault}
 use Rattle.supply.specs.Stocks.{Stock, Returned}
@@ -27,12 +27,12 @@ use Rattle.repair.specs.Joint.{Neighbours}
 
 -- parts of what holds of all
 pub alls_front : {X : Type 0} (P : X → Type 0) (xs ys : List X) → All P (xs ++ ys) → All P xs
-alls_front P [] ys a = tt
-alls_front P (x ∷ xs) ys a = (a.0, alls_front P xs ys a.1)
+alls_front P [] ys a = All-nil P
+alls_front P (x ∷ xs) ys a = All-cons P x xs (All-head P x (xs ++ ys) a) (alls_front P xs ys (All-tail P x (xs ++ ys) a))
 
 pub alls_back : {X : Type 0} (P : X → Type 0) (xs ys : List X) → All P (xs ++ ys) → All P ys
 alls_back P [] ys a = a
-alls_back P (x ∷ xs) ys a = alls_back P xs ys a.1
+alls_back P (x ∷ xs) ys a = alls_back P xs ys (All-tail P x (xs ++ ys) a)
 
 -- a tree's root and its children
 pub occurs_kids : {E : Type 0} (x h : ℕ) (t : Tree E) → (h ≡ 0 → length (kids t) ≡ 0) → occurs x h t ≡ same x (number t) + total (occurs x (h - 1)) (kids t)
@@ -91,13 +91,13 @@ module _ {K V : Type 0} (T : Tables K V) (S : Stock) (h p i : ℕ) (us : List (K
   held_rest = alls_back (Holds T h) A (l ∷ r ∷ B) all_kids
 
   held_b : All (Holds T h) B
-  held_b = held_rest.1.1
+  held_b = All-tail (Holds T h) r B (All-tail (Holds T h) l (r ∷ B) held_rest)
 
   pub held_l_lem : Held T h nl (row l) (kids l)
-  held_l_lem = held_from T h l held_rest.0
+  held_l_lem = held_from T h l (All-head (Holds T h) l (r ∷ B) held_rest)
 
   pub held_r : Held T h nr (row r) (kids r)
-  held_r = held_from T h r held_rest.1.0
+  held_r = held_from T h r (All-head (Holds T h) r B (All-tail (Holds T h) l (r ∷ B) held_rest))
 
   names : map number (kids old) ≡ n_a ++ nl ∷ nr ∷ n_b
   names = ap (map number) same_kids ∙ map-append number A (l ∷ r ∷ B)
@@ -247,7 +247,7 @@ module _ {K V : Type 0} (T : Tables K V) (S : Stock) (h p i : ℕ) (us : List (K
         (linked_append T' p (0 + length n_a) (nl ∷ []) n_b (linked_l T' bs₁ ls₁ c₁ in_bs₁ in_ls₁)
         (subst (λ n. Linked T' p n n_b) (let z : i + 1 ≡ 0 + length n_a + 1 = omega (arith, length-map A number, w.edges_here) in z) merge_done.3))))
         (All-append (Holds T' h) A (merged l e r ∷ B) (kept_a T' bs₁ ls₁ c₁ in_bs₁ in_ls₁)
-        (held_to T' h nl (row l ++ e ∷ row r) (kids l ++ kids r) merged_held, kept_b T' bs₁ ls₁ c₁ in_bs₁ in_ls₁))
+        (All-cons (Holds T' h) (merged l e r) B (held_to T' h nl (row l ++ e ∷ row r) (kids l ++ kids r) merged_held) (kept_b T' bs₁ ls₁ c₁ in_bs₁ in_ls₁)))
       where
         joined : map number (A ++ merged l e r ∷ B) ≡ n_a ++ nl ∷ n_b
         joined = map-append number A (merged l e r ∷ B)
@@ -304,7 +304,7 @@ module _ {K V : Type 0} (T : Tables K V) (S : Stock) (h p i : ℕ) (us : List (K
         (omega (arith, length-append A (mk nl es tl ∷ mk nr fs tr ∷ B), length-append us (x ∷ ws), rest, w.here, w.edges_here))
         (subst (λ ks. Linked T' p 0 ks) (sym joined) two_linked)
         (All-append (Holds T' h) A (mk nl es tl ∷ mk nr fs tr ∷ B) (kept_a T' bs₂ ls c in_bs₂ in_ls₂)
-        (held_to T' h nl es tl left, (held_to T' h nr fs tr right, kept_b T' bs₂ ls c in_bs₂ in_ls₂)))
+        (All-cons (Holds T' h) (mk nl es tl) (mk nr fs tr ∷ B) (held_to T' h nl es tl left) (All-cons (Holds T' h) (mk nr fs tr) B (held_to T' h nr fs tr right) (kept_b T' bs₂ ls c in_bs₂ in_ls₂))))
       where
         joined : map number (A ++ mk nl es tl ∷ mk nr fs tr ∷ B) ≡ n_a ++ nl ∷ nr ∷ n_b
         joined = map-append number A (mk nl es tl ∷ mk nr fs tr ∷ B)

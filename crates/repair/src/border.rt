@@ -34,7 +34,7 @@ fn mend<K: Copy, V: Copy, S: Supply>(
     height: u16,
     node: u16,
 ) -> Result<(), Fault>
-    ensures { Mends side (tables heads.old keys.old values.old) (tables heads.new keys.new values.new) (stock supply.old) (stock supply.new) height node result }
+    ensures { Mends side (tables heads.old keys.old values.old) (tables heads.new keys.new values.new) (S.stock supply.old) (S.stock supply.new) height node result }
 {
     if height == 0 {
         return Ok(());
@@ -58,7 +58,7 @@ fn fix_border<K: Copy, V: Copy, S: Supply>(
     side: Side,
     root: NodeRef,
 ) -> Result<NodeRef, Fault>
-    ensures { Repairs side (tables heads.old keys.old values.old) (tables heads.new keys.new values.new) (stock supply.old) (stock supply.new) root.height root.node result }
+    ensures { Repairs side (tables heads.old keys.old values.old) (tables heads.new keys.new values.new) (S.stock supply.old) (S.stock supply.new) root.height root.node result }
 {
     let top = fix_top(heads, keys, values, supply, root)?;
     mend(heads, keys, values, supply, side, top.height, top.node)?;
@@ -73,7 +73,7 @@ pub fn fix_right_border<K: Copy, V: Copy, S: Supply>(
     supply: &mut S,
     root: NodeRef,
 ) -> Result<NodeRef, Fault>
-    ensures { Repairs Last (tables heads.old keys.old values.old) (tables heads.new keys.new values.new) (stock supply.old) (stock supply.new) root.height root.node result }
+    ensures { Repairs Last (tables heads.old keys.old values.old) (tables heads.new keys.new values.new) (S.stock supply.old) (S.stock supply.new) root.height root.node result }
 {
     fix_border(heads, keys, values, supply, Side::Last, root)
 }
@@ -86,7 +86,7 @@ pub fn fix_left_border<K: Copy, V: Copy, S: Supply>(
     supply: &mut S,
     root: NodeRef,
 ) -> Result<NodeRef, Fault>
-    ensures { Repairs First (tables heads.old keys.old values.old) (tables heads.new keys.new values.new) (stock supply.old) (stock supply.new) root.height root.node result }
+    ensures { Repairs First (tables heads.old keys.old values.old) (tables heads.new keys.new values.new) (S.stock supply.old) (S.stock supply.new) root.height root.node result }
 {
     fix_border(heads, keys, values, supply, Side::First, root)
 }

@@ -67,7 +67,7 @@ pub(crate) fn join_at<K: Copy, V: Copy, S: Supply>(
     idx: usize,
 ) -> Result<u16, Fault>
     requires { idx < 11 }
-    ensures { Joins side (tables heads.old keys.old values.old) (tables heads.new keys.new values.new) (stock supply.old) (stock supply.new) parent.height parent.node idx result }
+    ensures { Joins side (tables heads.old keys.old values.old) (tables heads.new keys.new values.new) (S.stock supply.old) (S.stock supply.new) parent.height parent.node idx result }
 {
     let fits = parent.can_merge(heads, keys, values, idx)?;
     if fits {

@@ -16,7 +16,7 @@ pub fn fix_top<K, V, S: Supply>(
     supply: &mut S,
     root: NodeRef,
 ) -> Result<NodeRef, Fault>
-    ensures { FixesTop (tables heads.old keys.now values.now) (tables heads.new keys.now values.now) (stock supply.old) (stock supply.new) root.height root.node result }
+    ensures { FixesTop (tables heads.old keys.now values.now) (tables heads.new keys.now values.now) (S.stock supply.old) (S.stock supply.new) root.height root.node result }
 {
     if root.height > MAX_HEIGHT {
         return Err(Fault::Breach);

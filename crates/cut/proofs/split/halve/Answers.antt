@@ -7,9 +7,9 @@ use Rattle.cut.specs.Split.{Halves}
 use Rattle.cut.proofs.Halving.{cut_done, left_done, right_done, halves_at}
 use Rattle.cut.proofs.split.halve.Goals as goal
 
-pub returns-then-root-gt-MAX-HEIGHT : goal.returns-then-root-gt-MAX-HEIGHT
+pub returns-then-root-gt-MAX_HEIGHT : goal.returns-then-root-gt-MAX_HEIGHT
 unfolding Halves
-returns-then-root-gt-MAX-HEIGHT g c = λ t o e z low. absurd (omega (arith, low, c.if-root-gt-MAX-HEIGHT.true))
+returns-then-root-gt-MAX_HEIGHT g c = λ t o e z low. absurd (omega (arith, low, c.if-root-gt-MAX_HEIGHT.true))
 
 pub returns-in_err-spare : goal.returns-in_err-spare
 unfolding Halves

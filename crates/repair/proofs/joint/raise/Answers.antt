@@ -22,46 +22,46 @@ returns-else-len-lt-B g c = λ S us e ws A l r B w more.
     raised_none c.args.side (tables c.args.heads.now c.args.keys.now c.args.values.now) c.args.parent.height c.args.parent.node c.args.idx S us e ws A l r B w
     c.border_edge.result c.in_ok-child.child c.in_ok-len.len c.border_edge.ensures c.in_ok-child.ensures c.in_ok-len.ensures.len_is more c.if-len-lt-B.false
 
-pub returns-in_err-bulk_steal_right : goal.returns-in_err-bulk_steal_right
+pub returns-in_err-bulk_steal_right-in-First : goal.returns-in_err-bulk_steal_right-in-First
 unfolding Raises
-returns-in_err-bulk_steal_right g c = λ S us e ws A l r B w more.
+returns-in_err-bulk_steal_right-in-First g c = λ S us e ws A l r B w more.
     let T = tables c.args.heads.now c.args.keys.now c.args.values.now in
     let T' = tables c.bulk_steal_right.new.heads c.bulk_steal_right.new.keys c.bulk_steal_right.new.values in
     let d =
     raised_right c.args.side T c.args.parent.height c.args.parent.node c.args.idx S us e ws A l r B w
     c.border_edge.result c.in_ok-child.child c.in_ok-len.len c.border_edge.ensures c.in_ok-child.ensures c.in_ok-len.ensures.len_is more c.if-len-lt-B.true
-    T' _ c.in-First.is c.in_err-bulk_steal_right.ensures in
+    T' _ c.in-First.is c.in_err-bulk_steal_right-in-First.ensures in
     absurd (err_not_ok _ _ d.0)
 
-pub returns-in_ok-bulk_steal_right : goal.returns-in_ok-bulk_steal_right
+pub returns-in_ok-bulk_steal_right-in-First : goal.returns-in_ok-bulk_steal_right-in-First
 unfolding Raises
-returns-in_ok-bulk_steal_right g c = λ S us e ws A l r B w more.
+returns-in_ok-bulk_steal_right-in-First g c = λ S us e ws A l r B w more.
     let T = tables c.args.heads.now c.args.keys.now c.args.values.now in
     let T' = tables c.bulk_steal_right.new.heads c.bulk_steal_right.new.keys c.bulk_steal_right.new.values in
     let d =
     raised_right c.args.side T c.args.parent.height c.args.parent.node c.args.idx S us e ws A l r B w
     c.border_edge.result c.in_ok-child.child c.in_ok-len.len c.border_edge.ensures c.in_ok-child.ensures c.in_ok-len.ensures.len_is more c.if-len-lt-B.true
-    T' _ c.in-First.is c.in_ok-bulk_steal_right.ensures in
+    T' _ c.in-First.is c.in_ok-bulk_steal_right-in-First.ensures in
     d.1
 
-pub returns-in_err-bulk_steal_left : goal.returns-in_err-bulk_steal_left
+pub returns-in_err-bulk_steal_left-in-Last : goal.returns-in_err-bulk_steal_left-in-Last
 unfolding Raises
-returns-in_err-bulk_steal_left g c = λ S us e ws A l r B w more.
+returns-in_err-bulk_steal_left-in-Last g c = λ S us e ws A l r B w more.
     let T = tables c.args.heads.now c.args.keys.now c.args.values.now in
     let T' = tables c.bulk_steal_left.new.heads c.bulk_steal_left.new.keys c.bulk_steal_left.new.values in
     let d =
     raised_left c.args.side T c.args.parent.height c.args.parent.node c.args.idx S us e ws A l r B w
     c.border_edge.result c.in_ok-child.child c.in_ok-len.len c.border_edge.ensures c.in_ok-child.ensures c.in_ok-len.ensures.len_is more c.if-len-lt-B.true
-    T' _ c.in-Last.is c.in_err-bulk_steal_left.ensures in
+    T' _ c.in-Last.is c.in_err-bulk_steal_left-in-Last.ensures in
     absurd (err_not_ok _ _ d.0)
 
-pub returns-in_ok-bulk_steal_left : goal.returns-in_ok-bulk_steal_left
+pub returns-in_ok-bulk_steal_left-in-Last : goal.returns-in_ok-bulk_steal_left-in-Last
 unfolding Raises
-returns-in_ok-bulk_steal_left g c = λ S us e ws A l r B w more.
+returns-in_ok-bulk_steal_left-in-Last g c = λ S us e ws A l r B w more.
     let T = tables c.args.heads.now c.args.keys.now c.args.values.now in
     let T' = tables c.bulk_steal_left.new.heads c.bulk_steal_left.new.keys c.bulk_steal_left.new.values in
     let d =
     raised_left c.args.side T c.args.parent.height c.args.parent.node c.args.idx S us e ws A l r B w
     c.border_edge.result c.in_ok-child.child c.in_ok-len.len c.border_edge.ensures c.in_ok-child.ensures c.in_ok-len.ensures.len_is more c.if-len-lt-B.true
-    T' _ c.in-Last.is c.in_ok-bulk_steal_left.ensures in
+    T' _ c.in-Last.is c.in_ok-bulk_steal_left-in-Last.ensures in
     d.1

@@ -5,9 +5,9 @@ use Rattle.repair.proofs.Tops.{stays_leaf, stays_inner, not_popped, not_declined
 use Rattle.repair.proofs.Becoming.{held_not_strange}
 use Rattle.repair.proofs.top.+fix_top.Goals as goal
 
-pub returns-then-root-gt-MAX-HEIGHT : goal.returns-then-root-gt-MAX-HEIGHT
+pub returns-then-root-gt-MAX_HEIGHT : goal.returns-then-root-gt-MAX_HEIGHT
 unfolding FixesTop
-returns-then-root-gt-MAX-HEIGHT g _ c = λ t o e z low. absurd (omega (arith, low, c.if-root-gt-MAX-HEIGHT.true))
+returns-then-root-gt-MAX_HEIGHT g _ c = λ t o e z low. absurd (omega (arith, low, c.if-root-gt-MAX_HEIGHT.true))
 
 pub returns-then-root-eq0 : goal.returns-then-root-eq0
 returns-then-root-eq0 g _ c =
