@@ -1,7 +1,7 @@
 -- The way up from the edge of a leaf, by the heads alone.
 --   Breached r       a refusal is for a breach of good form
 --   up H e           the edge in the parent that leads to the node of e
---   up_from H n e     the edge n levels up
+--   up_from H n e    the edge n levels up
 --   ups H n m        node m, its parent and so on: n nodes
 --   beside s len i   the entry behind or before edge i of a node with len entries: none at the end of the row
 --   onward s i       the edge on the far side of entry i

@@ -1,11 +1,11 @@
 -- Walks over the entries of a tree.
---   end_of s w          the edge at one end of a walk
+--   end_of s w         the edge at one end of a walk
 --   moved s e w        the walk with another edge there, and one entry less left
---   no_walk             the walk of a tree without nodes
+--   no_walk            the walk of a tree without nodes
 --   Walks T S h t w    the tables hold the tree that t shows between the edges of w, its nodes are out, and w knows how many entries it has
 --   Hands              a step hands out the entry at its end; the nodes that are left behind go back
 --   Stepped            what a step answers
---   StandsAt          what a reading of an entry answers
+--   StandsAt           what a reading of an entry answers
 --   Ready              the tables hold a formed tree of so many entries under a root, and its nodes are out
 --   Opened             a walk over all entries of a tree
 --   Opens              what opening answers

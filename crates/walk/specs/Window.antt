@@ -5,7 +5,7 @@
 --   put s e b          the two with another in the place of that one
 --   only s b           that one alone
 --   outer s us vs      what is not shown on that side
---   edge_at s a n       the index of the edge at that end of a row of n entries that begins at a
+--   edge_at s a n      the index of the edge at that end of a row of n entries that begins at a
 --   Pane T least b t   the tables hold the node of t with the entries us before its row and vs behind it, and so for the edges
 --   Leafs, Inner       the same of a leaf, and of a node above the leaves
 --   Among P b ks       P of each of the children ks, of which the first has the front's edge and the last the back's
