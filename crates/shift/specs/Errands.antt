@@ -2,7 +2,7 @@
 --   Carried     what was handed over for an errand that was carried out, and the stock before and after it
 --   Left        why an errand was refused, and that the stock is as it was
 --   Ran         what an errand does: it is Carried out or Left
---   tally_of     the counts of a stock
+--   tally_of    the counts of a stock
 use Rattle.std.specs.Prelude.{Result, MatchResult}
 use Rattle.supply.specs.Stocks.{Stock, size_of, outs_of, Given, Refused, Returned, Declined, GivenTwo, RefusedTwo}
 use Rattle.supply.specs.declared.faults.Fault.{Fault}

@@ -33,7 +33,7 @@ pub struct Tally {
 impl Tally {
     /// The counts of `supply` as they are.
     pub fn of<S: Supply>(supply: &S) -> Tally
-        ensures { result ≡ tally_of (stock supply.now) }
+        ensures { result ≡ tally_of (S.stock supply.now) }
     {
         Tally {
             size: supply.size(),
@@ -45,7 +45,7 @@ impl Tally {
 
 /// Carries out one errand, or passes on the fault of the supply, which is then as it was.
 pub fn run<S: Supply>(supply: &mut S, errand: Errand) -> Result<Handed, Fault>
-    ensures { Ran errand (stock supply.old) (stock supply.new) result }
+    ensures { Ran errand (S.stock supply.old) (S.stock supply.new) result }
 {
     match errand {
         Errand::Take => Ok(Handed::One(supply.take()?)),
