@@ -1,15 +1,14 @@
 -- A spine taken from the supply. Assumes nothing.
-use Rattle.std.proofs.Common.{◌≡◌, ℕ, zero, suc, ◌+◌, ◌<◌, ◌≤◌, false, cond, eqb, List, [], ◌∷◌, length, take, set, sym, refl, ap, ◌∙◌, subst, ap₂, arith, length-set, get_or-set_other, get_or-set_same}
+use Rattle.std.proofs.Common.{◌≡◌, ℕ, zero, suc, ◌+◌, ◌<◌, ◌≤◌, false, cond, eqb, List, [], ◌∷◌, length, sym, refl, ap, ◌∙◌, subst, ap₂, arith}
 use Rattle.std.proofs.lemmas.List.Elements.{All-nil, All-cons}
 use Rattle.std.proofs.lemmas.Bool.Decides.{nat_tests}
 use Rattle.supply.specs.Stocks.{Stock, is_out, Given}
 use Rattle.node.specs.declared.head.Head.{Head}
 use Rattle.node.specs.Shape.{Tree, number, mk}
-use Rattle.node.specs.Store.{Tables, tables, Node, Linked, Holds, Changed, head_in, no_head, times}
+use Rattle.node.specs.Store.{Tables, tables, Node, Linked, Holds, Changed, head_in, times}
 use Rattle.node.specs.Laws.{occurs, below, same}
-use Rattle.node.specs.Balance.{mark, Rooted, Balanced}
+use Rattle.node.specs.Balance.{mark, Balanced}
 use Rattle.node.specs.Levels.{new_leaf, push_level}
-use Rattle.node.proofs.Adopts.{times_one, kept_by_set}
 use Rattle.node.proofs.Numbers.{same_self, same_other, occurs_parts, occurs_below, occurs_mk}
 use Rattle.node.proofs.Frames.{holds_node, holds_from, holds_from_leaf, frame_changed}
 use Rattle.node.proofs.Balances.{mark_most, mark_unused, balanced_both, balanced_as, balanced_given, beside_both, beside_changed}
