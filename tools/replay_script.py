@@ -7,7 +7,7 @@ takes, and prints `refused 6` with that number and the allowance where there are
 """
 import random
 
-random.seed(20261118)
+numbers = random.Random(20261118)
 out = []
 
 
@@ -59,21 +59,21 @@ for line in ("n 5", "b 5", "p 5 1 1", "c 0 5 3", "c 5 6 3", "w 5", "r 5", "l 5",
 say("r", 0)
 
 # heights 2 and 3, cut again and again
-for seed, size in ((1, 150), (2, 420), (3, 700)):
+for order, size in ((1, 150), (2, 420), (3, 700)):
     keys = list(range(1, 2 * size + 1, 2))
-    random.Random(seed).shuffle(keys)
+    random.Random(order).shuffle(keys)
     build(0, keys)
     look(0)
     for _ in range(40):
-        say("g", 0, random.randint(0, 2 * size + 2))
+        say("g", 0, numbers.randint(0, 2 * size + 2))
     used = [0]
     for to in range(1, 9):
-        at = random.choice(used)
-        say("c", at, to, random.randint(0, 2 * size + 2))
+        at = numbers.choice(used)
+        say("c", at, to, numbers.randint(0, 2 * size + 2))
         used.append(to)
         look(at, to)
-    for k in random.sample(range(0, 2 * size), 30):
-        say("p", random.choice(used), k, 7)
+    for k in numbers.sample(range(0, 2 * size), 30):
+        say("p", numbers.choice(used), k, 7)
     look(*used)
     for p in used:
         say("r", p)
@@ -85,7 +85,7 @@ for size in (0, 1, 5, 11, 12, 40, 88, 89, 300, 640):
     say("w", 4)
     say("l", 4)
     for step in range(size + 3):
-        say(random.choice("nnb") if size % 2 else random.choice("nbb"), 4)
+        say(numbers.choice("nnb") if size % 2 else numbers.choice("nbb"), 4)
         if step % 11 == 0:
             say("f")
         if step == 250:
@@ -120,7 +120,7 @@ for k in range(0, 1900, 19):
     say("g", 10, k)
 say("w", 10)
 for _ in range(120):
-    say(random.choice("nb"), 10)
+    say(numbers.choice("nb"), 10)
 say("f")
 say("e", 10)
 for p in (7, 8, 9, 10):

@@ -1,4 +1,5 @@
 -- One level of the descent of a cut, and what the recursion did below it. Assumes nothing.
+use Rattle.rules.proofs.Searches.{first_map, made_map, first_is}
 use Rattle.std.proofs.Common.{◌≡◌, ℕ, zero, suc, ◌+◌, ◌-◌, ◌*◌, ◌<◌, ◌≤◌, Bool, List, [], ◌∷◌, ◌++◌, map, length, get_or, take, drop, Ok, Err, All, Result, Ordering, sym, refl, ap, ◌∙◌, subst, ap₂, ⊎_elim, append_assoc, arith, length-append, length-drop, take-append-drop, length-take}
 use lib.ListN.{length-map}
 use lib.Seq.{split_at}
@@ -12,7 +13,7 @@ use Rattle.node.specs.Cells.{span}
 use Rattle.node.specs.Links.{edge}
 use Rattle.node.specs.Shape.{Tree, node, none, number, row, kids, kid, mk, total}
 use Rattle.node.specs.Sorted.{index}
-use Rattle.node.specs.Store.{Tables, Sized, Node, Linked, Holds, SameLink, Changed, head_at, numbers, times, first}
+use Rattle.node.specs.Store.{Tables, Sized, Node, Linked, Holds, SameLink, Changed, head_at, numbers, times, first, keys_at}
 use Rattle.node.specs.Laws.{occurs, below, same}
 use Rattle.node.specs.Balance.{mark, Beside}
 use Rattle.node.specs.Operations.{MovesSuffix}
@@ -26,9 +27,8 @@ use Rattle.node.proofs.Weaves.{total_around}
 use Rattle.rules.proofs.Branches.{tops_inside, tops_parts}
 use Rattle.rules.proofs.Ways.{index_le}
 use Rattle.parts.specs.Rules.{cut_left, cut_right, spine, cuts}
-use Rattle.parts.proofs.Searches.{first_map, made_map, first_is}
 use Rattle.repair.proofs.Mending.{beside_all}
-use Rattle.cut.specs.Descent.{keys_at, Stops, beneath, Parted, Cuts}
+use Rattle.cut.specs.Descent.{Stops, beneath, Parted, Cuts}
 use Rattle.cut.proofs.Spines.{spine_inner}
 
 -- ---- trees

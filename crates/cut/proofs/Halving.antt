@@ -1,4 +1,5 @@
 -- Both parts of a cut in the tables, their borders repaired one after the other. Assumes nothing.
+use Rattle.node.specs.Kinds.{root_of}
 use Rattle.std.proofs.Common.{◌≡◌, ℕ, zero, suc, ◌+◌, ◌<◌, ◌≤◌, Bool, [], ◌∷◌, ◌++◌, length, take, drop, Ok, Result, Ordering, sym, ap, ◌∙◌, subst, ap₂, arith}
 use Rattle.supply.specs.declared.faults.Fault.{Fault}
 use Rattle.supply.specs.Stocks.{Stock}
@@ -16,7 +17,7 @@ use Rattle.node.proofs.Weaves.{total_append, total_around}
 use Rattle.node.proofs.Tabled.{ok_same}
 use Rattle.rules.proofs.Ways.{index_le}
 use Rattle.parts.specs.Rules.{cut_left, cut_right, spine}
-use Rattle.repair.specs.Repair.{Topped, Repairs, root_of}
+use Rattle.repair.specs.Repair.{Topped, Repairs}
 use Rattle.cut.specs.Spine.{SpineTaken}
 use Rattle.cut.specs.Descent.{beneath, Parted, Cuts}
 use Rattle.cut.specs.Split.{left_of, right_of, made_of, Halved, HalvesAt}

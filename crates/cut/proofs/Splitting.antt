@@ -1,4 +1,5 @@
 -- The lengths of both parts of a cut. Assumes nothing.
+use Rattle.node.specs.Kinds.{root_of}
 use Rattle.std.proofs.Common.{◌≡◌, ℕ, ◌≤◌, length, Some, Ok, Err, Result, Ordering, sym, ap, ◌∙◌, subst, ap₂, arith, length-append}
 use Rattle.supply.specs.declared.faults.Fault.{Fault}
 use Rattle.supply.specs.Stocks.{Stock}
@@ -15,7 +16,6 @@ use Rattle.node.proofs.Recounts.{recount}
 use Rattle.node.proofs.Tabled.{ok_same}
 use Rattle.parts.specs.Rules.{fix_top, mend, repair, cut_left, cut_right}
 use Rattle.parts.proofs.Mends.{cut_parts}
-use Rattle.repair.specs.Repair.{root_of}
 use Rattle.repair.proofs.Repairing.{top_low}
 use Rattle.cut.specs.declared.split.Cut.{Cut}
 use Rattle.cut.specs.Descent.{beneath}

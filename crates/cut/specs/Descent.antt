@@ -1,25 +1,20 @@
 -- The descent of a cut: what is not below the query goes over, level by level, to a spine of empty nodes.
---   keys_at T m           the keys of node m
 --   Stops T m i made     the search in node m stops at index i, after so many comparisons
 --   beneath place e      the key of e is below the query
 --   Parted               the tables hold what stays of t, and the spine filled with the rest; nothing else that is out has changed
 --   Cuts                 so it is where the tables hold t and the spine, with numbers that are out, each once; with the comparisons made
-use Rattle.std.specs.Prelude.{◌≡◌, ℕ, ◌+◌, ◌*◌, ◌≤◌, Bool, List, Ok, Result}
+use Rattle.std.specs.Prelude.{◌≡◌, ℕ, ◌+◌, ◌≤◌, Bool, Ok, Result}
 use Rattle.std.specs.declared.cmp.Ordering.{Ordering}
 use Rattle.std.specs.Ordering.{is_gt}
 use Rattle.supply.specs.declared.faults.Fault.{Fault}
 use Rattle.supply.specs.Stocks.{Stock}
 use Rattle.order.specs.Found.{first_not_below, comparisons}
-use Rattle.node.specs.Cells.{span}
 use Rattle.node.specs.Operations.{Lies}
 use Rattle.node.specs.Shape.{Tree, number}
-use Rattle.node.specs.Store.{Tables, Sized, Holds, SameLink, head_at, first}
+use Rattle.node.specs.Store.{Tables, Sized, Holds, SameLink, head_at, first, keys_at}
 use Rattle.node.specs.Laws.{occurs}
 use Rattle.node.specs.Balance.{mark, Beside}
 use Rattle.parts.specs.Rules.{cut_left, cut_right, spine, cuts}
-
-abbrev pub keys_at : {K V : Type 0} → Tables K V → ℕ → List K
-keys_at T m = span T.keys (11 * m) (head_at T m).len
 
 pub record Stops {K V : Type 0} (place : K → Ordering) (T : Tables K V) (m i made : ℕ) : Type 0 where
   pub lies : Lies T m (head_at T m).len

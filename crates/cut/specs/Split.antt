@@ -2,10 +2,10 @@
 --   Spared        the allowance is at least what is needed, or the call is refused and says how much there is
 --   CountsBoth    where n and m entries stand under two nodes, together as many as are given, both are answered
 --   left_of, right_of    the two parts of a tree, with their heights, at the query that `place` compares with
---   Unchanged     tables and supply are as they were
 --   Halved        the tables hold both parts, roots both; the supply has given what they have more than t, and all else that is out is as it was
 --   Halves        so it is with h + 1 numbers left to take; with fewer nothing is done
 --   SplitsOff     so it is of a tree of `count` entries, with the lengths of both parts; of an empty one nothing is done
+use Rattle.node.specs.Kinds.{root_of}
 use Rattle.std.specs.Prelude.{◌≡◌, ℕ, ◌+◌, ◌<◌, ◌≤◌, List, length, Some, None, Ok, Err, Result, MatchResult}
 use Rattle.std.specs.declared.cmp.Ordering.{Ordering}
 use Rattle.supply.specs.declared.faults.Fault.{Fault}
@@ -17,9 +17,8 @@ use Rattle.node.specs.Shape.{Tree, number, flat, Formed}
 use Rattle.node.specs.Store.{Tables, Holds, first}
 use Rattle.node.specs.Counts.{Counted}
 use Rattle.node.specs.Laws.{occurs}
-use Rattle.node.specs.Balance.{Owns, Rooted, Balanced, Beside}
+use Rattle.node.specs.Balance.{Owns, Rooted, Balanced, Beside, Unchanged}
 use Rattle.parts.specs.Rules.{left_part, right_part, cuts}
-use Rattle.repair.specs.Repair.{root_of}
 use Rattle.cut.specs.declared.split.Cut.{Cut}
 use Rattle.cut.specs.Descent.{beneath}
 
@@ -40,10 +39,6 @@ module _ {K V : Type 0} (place : K → Ordering) where
   -- the comparisons
   abbrev pub made_of : ℕ → Tree (K × V) → ℕ
   made_of h t = cuts (λ e. place (first e)) h t
-
-pub record Unchanged {K V : Type 0} (T T' : Tables K V) (S S' : Stock) : Type 0 where
-  pub tables_same : T' ≡ T
-  pub stock_same : S' ≡ S
 
 pub record Halved {K V : Type 0} (T T' : Tables K V) (S S' : Stock) (h : ℕ) (t : Tree (K × V)) (l r : ℕ × Tree (K × V)) : Type 0 where
   pub left : Holds T' l.0 l.1

@@ -5,10 +5,11 @@ ghost use Rattle.node.specs.Operations.{Strange};
 ghost use Rattle.node.specs.Store.{tables};
 ghost use Rattle.cut.specs.Descent.{Stops, Cuts};
 
-use node::head::{CAPACITY, Head};
-use node::nodes::{NodeRef, len_in};
+use map::search::search_in;
+use node::head::Head;
+use node::nodes::NodeRef;
 use order::keys::{KeyOrder, Placing, Query};
-use order::search::{SearchResult, search_node};
+use order::search::SearchResult;
 use repair::joint::edge_of;
 use supply::Fault;
 
@@ -22,11 +23,10 @@ fn stop_in<K: KeyOrder, V, Q: Query<K>>(
 ) -> Result<(usize, usize), Fault>
     ensures { MatchResult result (λ p. Stops (Q.Placing.places query.now) (tables heads.now keys.now values.now) node p.0 p.1) (λ _. Strange (tables heads.now keys.now values.now) node) }
 {
-    let len = len_in(heads, keys, values, node)?;
-    let start = CAPACITY * node as usize;
-    match search_node(&keys[start..start + len], query) {
-        (SearchResult::Found(idx), count) => Ok((idx, count)),
-        (SearchResult::GoDown(idx), count) => Ok((idx, count)),
+    let (found, count) = search_in(heads, keys, values, node, query)?;
+    match found {
+        SearchResult::Found(idx) => Ok((idx, count)),
+        SearchResult::GoDown(idx) => Ok((idx, count)),
     }
 }
 

@@ -1,5 +1,5 @@
 -- A new node with its first entry: the root of a new tree, or a root above two trees. Assumes nothing.
-use Rattle.std.proofs.lemmas.List.Elements.{All-nil, All-cons, All-head, All-tail}
+use Rattle.std.proofs.lemmas.List.Elements.{All-nil, All-head, All-tail}
 use Rattle.std.proofs.Common.{◌≡◌, ℕ, suc, ◌+◌, ◌-◌, ◌<◌, ◌≤◌, List, [], ◌∷◌, ◌++◌, map, length, Ok, All, Result, sym, refl, ap, ◌∙◌, subst, append-nil, arith}
 use Rattle.supply.specs.declared.faults.Fault.{Fault}
 use Rattle.supply.specs.Stocks.{Stock, Given}
@@ -13,7 +13,7 @@ use Rattle.node.proofs.Adopts.{times_append}
 use Rattle.node.proofs.Balances.{mark_most, mark_unused, balanced_as, balanced_given, beside_both, beside_more, beside_changed}
 use Rattle.node.proofs.Frames.{all_kept}
 use Rattle.node.proofs.Numbers.{same_self, tops_occur, occurs_root}
-use Rattle.node.proofs.Weaves.{total_append}
+use Rattle.node.proofs.Weaves.{total_append, all_one, all_two}
 use Rattle.rules.specs.Held.{Held}
 use Rattle.rules.proofs.Branches.{held_to, occurs_held, tops_parts}
 use Rattle.rules.proofs.Levels.{leaf_changed, leaf_node, leaf_root, push_changed, push_node, push_root, push_linked}
@@ -116,7 +116,7 @@ module _ {K V : Type 0} (H : List Head) (ks : List K) (vs : List V) (T₂ : Tabl
       (λ z p.
       let q : times z (m ∷ number l ∷ []) ≡ same z m + same z (number l) = omega arith in
       omega (arith, free z, tops_parts z h (l ∷ y ∷ []), tops_parts z h (l ∷ []), tops_parts z h (y ∷ [])))
-      (All-cons (Holds T h) l (y ∷ []) u (All-cons (Holds T h) y [] v (All-nil (Holds T h))))
+      (all_two (Holds T h) l y u v)
 
   back : suc h - 1 ≡ h
   back = omega arith
@@ -131,7 +131,7 @@ module _ {K V : Type 0} (H : List Head) (ks : List K) (vs : List V) (T₂ : Tabl
         body = push_node H ks vs m inside (number l) left_in other room;
         fan = record { leaf = λ z. absurd (omega arith); inner = λ z. refl };
         linked = push_linked H ks vs m inside (number l) left_in other room;
-        all = All-cons (Holds T₁ (suc h - 1)) l [] (All-head (Holds T₁ (suc h - 1)) l (y ∷ []) held) (All-nil (Holds T₁ (suc h - 1)));
+        all = all_one (Holds T₁ (suc h - 1)) l (All-head (Holds T₁ (suc h - 1)) l (y ∷ []) held);
       })
       (All-tail (Holds T₁ (suc h - 1)) l (y ∷ []) held) (record { leaf = λ z. absurd (omega arith); inner = λ z. refl }) did in
       (d.0, planted_as (λ z. total (occurs z (suc h - 1)) (l ∷ []) + total (occurs z (suc h - 1)) (y ∷ [])) (λ z. occurs z h l + occurs z h y) (λ z. omega (arith, low z l, low z y)) d.1)

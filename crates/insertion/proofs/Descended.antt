@@ -1,4 +1,6 @@
 -- What came of an insertion below a node, from what came of its child. Assumes nothing.
+use Rattle.rules.proofs.Searches.{first_is}
+use Rattle.std.proofs.lemmas.Option.{none-some}
 use Rattle.std.proofs.Common.{◌≡◌, ℕ, zero, suc, ◌+◌, ◌-◌, ◌<◌, ◌≤◌, Bool, true, false, cond, eqb, ltb, leb, List, [], ◌∷◌, ◌++◌, length, take, drop, Some, None, Ok, Err, All, Option, Result, Ordering, sym, refl, ap, ◌∙◌, subst, ap₂, ⊎_elim, arith, length-append, take-append-drop, length-take, eq-eqb, ne_eqb}
 use Rattle.std.specs.Ordering.{is_gt}
 use Rattle.std.proofs.lemmas.Bool.{cond-true, cond-false, lt-ltb, le-ltb, le-leb, cases_lt}
@@ -17,8 +19,8 @@ use Rattle.node.proofs.Frames.{height_suc, all_kept, linked_same}
 use Rattle.node.proofs.Tabled.{err_not_ok, ok_same}
 use Rattle.node.proofs.Numbers.{occurs_parts}
 use Rattle.std.proofs.lemmas.List.{nil_from_length}
-use Rattle.node.proofs.Weaves.{total_at}
-use Rattle.std.proofs.lemmas.List.Elements.{All-get_or, All-nil, All-cons}
+use Rattle.node.proofs.Weaves.{total_at, all_one}
+use Rattle.std.proofs.lemmas.List.Elements.{All-get_or, All-nil}
 use Rattle.rules.specs.Held.{Held}
 use Rattle.rules.specs.Rules.{grow, run, rise, weighs}
 use Rattle.rules.proofs.Branches.{held_from, held_to}
@@ -27,16 +29,13 @@ use Rattle.rules.proofs.Grows.{grow_agrees}
 use Rattle.map.specs.Lookup.{seek, nth}
 use Rattle.map.specs.Inserts.{Replaces}
 use Rattle.map.specs.Replacing.{alter, amend}
-use Rattle.map.proofs.Finds.{first_is, hit}
+use Rattle.map.proofs.Finds.{hit}
 use Rattle.map.proofs.Seeking.{seek_here, seek_leaf, seek_down}
 use Rattle.insertion.specs.declared.descent.InsertResult.{InsertResult}
 use Rattle.insertion.specs.declared.descent.InsertResult.TheVariants.{Replaced, Fit, Split}
 use Rattle.insertion.specs.Grew.{Grew, seated, coming, members}
 use Rattle.insertion.specs.Descent.{need_at, above_child, Swapped, Descended, Settled, Comes}
 use Rattle.insertion.proofs.Descending.{Ran, grow_down, run_down, grow_ran, need_down, occurs_at, sum, beside_root, link_root, reseat, sum_new, occurs_new}
-
-no_option : {X : Type 0} (x : X) → ◌≡◌ {A = Option X} None (Some x) → ⊥
-no_option x e = let z : ◌≡◌ {A = ℕ} 0 1 = cc in omega arith
 
 pub fit_not_split : {K V : Type 0} (k : K) (v : V) (n : ℕ) → ◌≡◌ {A = InsertResult K V} Fit (Split k v n) → ⊥
 fit_not_split k v n e = let z : ◌≡◌ {A = ℕ} 0 1 = cc in omega arith
@@ -266,7 +265,7 @@ module _ {K V : Type 0} (place : (K × V) → Ordering) (T T₁ : Tables K V) (S
       pub called : ((es : List (K × V)) (ks new : List (Tree (K × V))) → Sized T₁ → size_of S₁ ≡ length T₁.heads → Holds T₁ h (mk (number t) es (seated i new ks)) → All (Holds T₁ (h - 1)) (coming new)
           → i ≤ length es → Comes h i c new ks → ((z : ℕ) → members h (number t) (seated i new ks) (coming new) z ≤ mark S₁ z) → Settled T₁ T₂ S₁ S₂ h (number t) i (k, v) above es ks new r)
           → (z : ℕ → ℕ) × Grew T T₂ S S₂ (λ z. occurs z h t) h (number t) (grow z b e h t) (run b h t) r
-      called s = settled (s (row t) (kids t) (l ∷ y ∷ []) sized₁ fits₁ held₁ (All-cons (Holds T₁ (h - 1)) y [] w.held.1 (All-nil (Holds T₁ (h - 1)))) (index_le b (row t)) comes owned₁)
+      called s = settled (s (row t) (kids t) (l ∷ y ∷ []) sized₁ fits₁ held₁ (all_one (Holds T₁ (h - 1)) y w.held.1) (index_le b (row t)) comes owned₁)
 
     abbrev Calls : Type 0
     Calls =
@@ -343,7 +342,7 @@ module _ {K V : Type 0} (place : (K × V) → Ordering) (T T' : Tables K V) (S S
       let n : run b_l 0 t ≡ 0 = run_leaf b_l t ∙ cond-true (ltb (length (row t)) 11) 0 1 (lt-ltb (length (row t)) 11 l) in
       let m : need_at b_l 0 t above ≡ 0 = ap (λ k. k + cond (leb 1 k) above 0) n in
       record {
-        replaced = λ x p. absurd (no_option x (sym none' ∙ p));
+        replaced = λ x p. absurd (none-some x (sym none' ∙ p));
         declined = λ _ p. absurd (omega arith);
         granted = λ _ _. (
           (λ k. k),
@@ -355,7 +354,7 @@ module _ {K V : Type 0} (place : (K × V) → Ordering) (T T' : Tables K V) (S S
       let n : run b_l 0 t ≡ 1 = run_leaf b_l t ∙ cond-false (ltb (length (row t)) 11) 0 1 (le-ltb (length (row t)) 11 l) in
       let m : need_at b_l 0 t above ≡ above + 1 = ap (λ k. k + cond (leb 1 k) above 0) n ∙ omega arith in
       record {
-        replaced = λ x p. absurd (no_option x (sym none' ∙ p));
+        replaced = λ x p. absurd (none-some x (sym none' ∙ p));
         declined = λ _ p. let d = q.declined l (omega arith) in (d.0 ∙ ap (λ k. Err (Short k S.allowance)) (sym m), d.1);
         granted = λ _ p.
             let d = q.splits l (omega arith) in (
@@ -435,6 +434,6 @@ module _ {K V : Type 0} (place : (K × V) → Ordering) (T T' : Tables K V) (S :
       let v : old ≡ second k.entry = ok_same _ _ (sym p ∙ (done k.entry k.rest k.there s).0) in
       record {
         replaced = λ x q. (ap (λ z. Ok (Replaced z)) (v ∙ ap second (some_same k.entry x (sym n ∙ q))), swapped_here k.entry k.rest k.there s);
-        declined = λ q l. absurd (no_option k.entry (sym q ∙ n));
-        granted = λ q l. absurd (no_option k.entry (sym q ∙ n));
+        declined = λ q l. absurd (none-some k.entry (sym q ∙ n));
+        granted = λ q l. absurd (none-some k.entry (sym q ∙ n));
       }

@@ -1,4 +1,5 @@
 -- Insertion into a whole tree, from what came of the descent. Assumes nothing.
+use Rattle.node.specs.Kinds.{root_of}
 use Rattle.std.proofs.Common.{◌≡◌, ℕ, suc, ◌+◌, ◌≤◌, Bool, leb, [], ◌∷◌, Some, None, Ok, Err, Option, Result, Ordering, sym, refl, ap, ◌∙◌, subst, ap₂, arith}
 use Rattle.std.specs.Ordering.{is_gt}
 use Rattle.std.proofs.lemmas.Bool.{cond-true, cond-false, le-leb, lt-leb}
@@ -17,7 +18,7 @@ use Rattle.insertion.specs.declared.descent.InsertResult.{InsertResult}
 use Rattle.insertion.specs.declared.descent.InsertResult.TheVariants.{Replaced, Fit, Split}
 use Rattle.insertion.specs.Grew.{Grew, answer}
 use Rattle.insertion.specs.Descent.{Descended}
-use Rattle.insertion.specs.Roots.{root_of, Planted, Crowns, Entered}
+use Rattle.insertion.specs.Roots.{Planted, Crowns, Entered}
 use Rattle.insertion.proofs.Descending.{Ran, grow_ran}
 use Rattle.insertion.proofs.Descended.{replaced_not_split, fit_not_split, split_same}
 

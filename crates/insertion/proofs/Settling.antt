@@ -1,8 +1,9 @@
 -- An entry put into a node with its children, which is split where it is full. Assumes nothing.
+use Rattle.node.proofs.Weaves.{all_front, all_back}
 use Rattle.std.proofs.Common.{◌≡◌, ℕ, ◌+◌, ◌-◌, ◌<◌, ◌≤◌, List, [], ◌∷◌, ◌++◌, map, length, Ok, All, Result, sym, ap, ◌∙◌, subst, arith, length-append}
 use lib.ListN.{length-map}
 use Rattle.std.proofs.lemmas.List.{map-append}
-use Rattle.std.proofs.lemmas.List.Elements.{All-append, All-nil, All-cons, All-head, All-tail}
+use Rattle.std.proofs.lemmas.List.Elements.{All-append}
 use Rattle.supply.specs.declared.faults.Fault.{Fault}
 use Rattle.node.specs.Shape.{Tree, number, total}
 use Rattle.node.specs.Store.{Tables, Sized, Node, Linked, Changed, Holds, times}
@@ -14,15 +15,6 @@ use Rattle.node.proofs.Numbers.{tops_occur}
 use Rattle.rules.specs.Held.{Held}
 use Rattle.rules.proofs.Branches.{tops_parts, tops_inside}
 use Rattle.map.specs.Inserts.{Edges, InsertsIn, InsertsLeft, InsertsRight}
-
--- parts of what holds of all
-pub alls_front : {X : Type 0} (P : X → Type 0) (xs ys : List X) → All P (xs ++ ys) → All P xs
-alls_front P [] ys a = All-nil P
-alls_front P (x ∷ xs) ys a = All-cons P x xs (All-head P x (xs ++ ys) a) (alls_front P xs ys (All-tail P x (xs ++ ys) a))
-
-pub alls_back : {X : Type 0} (P : X → Type 0) (xs ys : List X) → All P (xs ++ ys) → All P ys
-alls_back P [] ys a = a
-alls_back P (x ∷ xs) ys a = alls_back P xs ys (All-tail P x (xs ++ ys) a)
 
 times_same : (x m : ℕ) → times x (m ∷ []) ≡ same x m
 times_same x m = omega arith
@@ -64,7 +56,7 @@ module _ {K V : Type 0} (T T' : Tables K V) (h m i : ℕ) (e : K × V) (c : ℕ)
         (record { leaf = λ z. length-map us number ∙ fan.leaf z; inner = λ z. length-map us number ∙ fan.inner z })
         (λ z. length-map ws number ∙ (lengths.0 z).1) (λ z. length-map ws number ∙ lengths.1 z) ed room
         (record {
-          inside = All-append (λ x. x < length T.heads) (map number rs) (map number ws) (tops_inside T (h - 1) rs new) (tops_inside T (h - 1) ws (alls_back (Holds T (h - 1)) us ws w.all));
+          inside = All-append (λ x. x < length T.heads) (map number rs) (map number ws) (tops_inside T (h - 1) rs new) (tops_inside T (h - 1) ws (all_back (Holds T (h - 1)) us ws w.all));
           once = λ x. omega (arith, one x, times_append x (map number rs) (map number ws), tops_occur x (h - 1) rs, tops_occur x (h - 1) ws);
         })
 
@@ -92,10 +84,10 @@ module _ {K V : Type 0} (T T' : Tables K V) (h m i : ℕ) (e : K × V) (c : ℕ)
                 (subst (λ n. Linked T' m n ns) (let z : length (map number us) ≡ 0 + length (map number us) = omega arith in z) done.2)
                 );
             all = All-append (Holds T' (h - 1)) us (rs ++ ws)
-                (stays us (λ x. omega arith) (λ x p. omega (arith, one x, tops_parts x (h - 1) us, times_append x (map number rs) (map number ws), tops_occur x (h - 1) rs, tops_occur x (h - 1) ws)) (alls_front (Holds T (h - 1)) us ws k))
+                (stays us (λ x. omega arith) (λ x p. omega (arith, one x, tops_parts x (h - 1) us, times_append x (map number rs) (map number ws), tops_occur x (h - 1) rs, tops_occur x (h - 1) ws)) (all_front (Holds T (h - 1)) us ws k))
                 (All-append (Holds T' (h - 1)) rs ws
                 (stays rs (λ x. omega arith) (λ x p. omega (arith, one x, tops_parts x (h - 1) rs, times_append x (map number rs) (map number ws), tops_occur x (h - 1) ws)) new)
-                (stays ws (λ x. omega arith) (λ x p. omega (arith, one x, tops_parts x (h - 1) ws, times_append x (map number rs) (map number ws), tops_occur x (h - 1) rs)) (alls_back (Holds T (h - 1)) us ws k)));
+                (stays ws (λ x. omega arith) (λ x p. omega (arith, one x, tops_parts x (h - 1) ws, times_append x (map number rs) (map number ws), tops_occur x (h - 1) rs)) (all_back (Holds T (h - 1)) us ws k)));
           },
           done.3,
         )
@@ -124,8 +116,8 @@ module _ {K V : Type 0} (T T' : Tables K V) (h m i : ℕ) (e : K × V) (c : ℕ)
       unfolding InsertsLeft
       done_l =
           let k = w.all in
-          let kv = alls_back (Holds T (h - 1)) us vs (alls_front (Holds T (h - 1)) (us ++ vs) ws k) in
-          let kw = alls_back (Holds T (h - 1)) (us ++ vs) ws k in
+          let kv = all_back (Holds T (h - 1)) us vs (all_front (Holds T (h - 1)) (us ++ vs) ws k) in
+          let kw = all_back (Holds T (h - 1)) (us ++ vs) ws k in
           did as' bs x fs (map number us) (map number vs) (map number ws) (map number rs) sized
           (subst (λ ks. Node T m ((as' ++ bs) ++ x ∷ fs) ks) kids_l w.body) at six
           (record { leaf = λ z. length-map us number ∙ fan.leaf z; inner = λ z. length-map us number ∙ fan.inner z })
@@ -158,7 +150,7 @@ module _ {K V : Type 0} (T T' : Tables K V) (h m i : ℕ) (e : K × V) (c : ℕ)
           let joined : map number us ++ (map number rs ++ map number vs) ≡ map number (us ++ (rs ++ vs)) = ap (λ z. map number us ++ z) (sym (map-append number rs vs)) ∙ sym (map-append number us (rs ++ vs)) in
           let o = edges_one rs ed in
           let k = w.all in
-          let kuv = alls_front (Holds T (h - 1)) (us ++ vs) ws k in
+          let kuv = all_front (Holds T (h - 1)) (us ++ vs) ws k in
           let links = (linked_parts T m 0 (map number us ++ map number vs) (map number ws) (subst (λ ks. Linked T m 0 ks) kids_l w.linked)).0 in (
             done_l.0,
             record {
@@ -173,16 +165,16 @@ module _ {K V : Type 0} (T T' : Tables K V) (h m i : ℕ) (e : K × V) (c : ℕ)
                   (subst (λ k. Linked T' m k (map number rs ++ map number vs)) (let z : length (map number us) ≡ 0 + length (map number us) = omega arith in z) done_l.3)
                   );
               all = All-append (Holds T' (h - 1)) us (rs ++ vs)
-                  (stays_l us (λ y. omega arith) (λ y p. omega (arith, one y, times_l y, sums y)) (alls_front (Holds T (h - 1)) us vs kuv))
+                  (stays_l us (λ y. omega arith) (λ y p. omega (arith, one y, times_l y, sums y)) (all_front (Holds T (h - 1)) us vs kuv))
                   (All-append (Holds T' (h - 1)) rs vs
                   (stays_l rs (λ y. omega arith) (λ y p. omega (arith, one y, times_l y, sums y)) new)
-                  (stays_l vs (λ y. omega arith) (λ y p. omega (arith, one y, times_l y, sums y)) (alls_back (Holds T (h - 1)) us vs kuv)));
+                  (stays_l vs (λ y. omega arith) (λ y p. omega (arith, one y, times_l y, sums y)) (all_back (Holds T (h - 1)) us vs kuv)));
             },
             record {
               body = done_l.2;
               fan = record { leaf = lengths_l.0; inner = lengths_l.1 };
               linked = done_l.4;
-              all = stays_l ws (λ y. omega arith) (λ y p. omega (arith, one y, times_l y, sums y)) (alls_back (Holds T (h - 1)) (us ++ vs) ws k);
+              all = stays_l ws (λ y. omega arith) (λ y p. omega (arith, one y, times_l y, sums y)) (all_back (Holds T (h - 1)) (us ++ vs) ws k);
             },
             done_l.5,
           )
@@ -206,9 +198,9 @@ module _ {K V : Type 0} (T T' : Tables K V) (h m i : ℕ) (e : K × V) (c : ℕ)
           × Linked T' n (length (map number vs)) (map number rs ++ map number ws) × Changed T T' (n ∷ m ∷ []) ns_r
       unfolding InsertsRight
       done_r =
-          let k = alls_back (Holds T (h - 1)) us (vs ++ ws) w.all in
-          let kv = alls_front (Holds T (h - 1)) vs ws k in
-          let kw = alls_back (Holds T (h - 1)) vs ws k in
+          let k = all_back (Holds T (h - 1)) us (vs ++ ws) w.all in
+          let kv = all_front (Holds T (h - 1)) vs ws k in
+          let kw = all_back (Holds T (h - 1)) vs ws k in
           did es x as' bs (map number us) (map number vs) (map number ws) (map number rs) sized
           (subst (λ ks. Node T m (es ++ x ∷ (as' ++ bs)) ks) kids_r w.body) six at
           (record { leaf = λ z. length-map us number ∙ fan.leaf z; inner = λ z. length-map us number ∙ fan.inner z })
@@ -239,14 +231,14 @@ module _ {K V : Type 0} (T T' : Tables K V) (h m i : ℕ) (e : K × V) (c : ℕ)
       right_held =
           let joined : map number vs ++ (map number rs ++ map number ws) ≡ map number (vs ++ (rs ++ ws)) = ap (λ z. map number vs ++ z) (sym (map-append number rs ws)) ∙ sym (map-append number vs (rs ++ ws)) in
           let o = edges_one rs ed in
-          let k = alls_back (Holds T (h - 1)) us (vs ++ ws) w.all in (
+          let k = all_back (Holds T (h - 1)) us (vs ++ ws) w.all in (
             done_r.0,
             record {
               body = done_r.1;
               fan = fan;
               linked = linked_kept T T' (n ∷ m ∷ []) ns_r m 0 (map number us) done_r.5 (λ y p. omega (arith, one y, times_r y, sums_r y))
                   (linked_parts T m 0 (map number us) (map number vs ++ map number ws) (subst (λ ks. Linked T m 0 ks) kids_r w.linked)).0;
-              all = stays_r us (λ y. omega arith) (λ y p. omega (arith, one y, times_r y, sums_r y)) (alls_front (Holds T (h - 1)) us (vs ++ ws) w.all);
+              all = stays_r us (λ y. omega arith) (λ y p. omega (arith, one y, times_r y, sums_r y)) (all_front (Holds T (h - 1)) us (vs ++ ws) w.all);
             },
             record {
               body = subst (λ ks. Node T' n (as' ++ e ∷ bs) ks) joined done_r.2;
@@ -259,10 +251,10 @@ module _ {K V : Type 0} (T T' : Tables K V) (h m i : ℕ) (e : K × V) (c : ℕ)
                   (subst (λ k. Linked T' n k (map number rs ++ map number ws)) (let z : length (map number vs) ≡ 0 + length (map number vs) = omega arith in z) done_r.4)
                   );
               all = All-append (Holds T' (h - 1)) vs (rs ++ ws)
-                  (stays_r vs (λ y. omega arith) (λ y p. omega (arith, one y, times_r y, sums_r y)) (alls_front (Holds T (h - 1)) vs ws k))
+                  (stays_r vs (λ y. omega arith) (λ y p. omega (arith, one y, times_r y, sums_r y)) (all_front (Holds T (h - 1)) vs ws k))
                   (All-append (Holds T' (h - 1)) rs ws
                   (stays_r rs (λ y. omega arith) (λ y p. omega (arith, one y, times_r y, sums_r y)) new)
-                  (stays_r ws (λ y. omega arith) (λ y p. omega (arith, one y, times_r y, sums_r y)) (alls_back (Holds T (h - 1)) vs ws k)));
+                  (stays_r ws (λ y. omega arith) (λ y p. omega (arith, one y, times_r y, sums_r y)) (all_back (Holds T (h - 1)) vs ws k)));
             },
             done_r.5,
           )

@@ -14,13 +14,13 @@ use Rattle.node.specs.Shape.{Tree, number, mk}
 use Rattle.node.specs.Store.{Tables, Sized, Holds, SameLink, first, second}
 use Rattle.node.specs.Laws.{occurs}
 use Rattle.node.specs.Rules.{settle}
-use Rattle.node.specs.Balance.{mark, Owns, Beside}
+use Rattle.node.specs.Balance.{mark, Owns, Beside, Unchanged}
 use Rattle.rules.specs.Rules.{grow, run}
 use Rattle.map.specs.Lookup.{seek}
 use Rattle.map.specs.Replacing.{amend}
 use Rattle.insertion.specs.declared.descent.InsertResult.{InsertResult}
 use Rattle.insertion.specs.declared.descent.InsertResult.TheVariants.{Replaced}
-use Rattle.insertion.specs.Grew.{Grew, Unchanged, seated, coming, members}
+use Rattle.insertion.specs.Grew.{Grew, seated, coming, members}
 
 abbrev pub Spared : Stock → Stock → ℕ → Result ℕ Fault → Type 0
 Spared S S' needed r = MatchResult r (λ n. Given S S' n × (needed ≤ S.allowance)) (λ f. (S.allowance < needed) × (f ≡ Short needed S.allowance) × (S' ≡ S))

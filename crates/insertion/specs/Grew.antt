@@ -39,10 +39,6 @@ pub record Grew {K V : Type 0} (T T' : Tables K V) (S S' : Stock) (f : ℕ → �
   pub link : SameLink T T' m
   pub taken : S.allowance ≡ S'.allowance + n
 
-pub record Unchanged {K V : Type 0} (T T' : Tables K V) (S S' : Stock) : Type 0 where
-  pub tables_same : T' ≡ T
-  pub stock_same : S' ≡ S
-
 -- the children of a node while what came of one of them is put in: the first of these is in its place already
 abbrev pub seated : {E : Type 0} → ℕ → List (Tree E) → List (Tree E) → List (Tree E)
 seated i [] ks = ks

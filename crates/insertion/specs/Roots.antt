@@ -3,6 +3,7 @@
 --   Begins       the first entry of an empty place
 --   Crowns       a root put above two trees, with an entry between them
 --   Enters       an entry put into a tree: a value replaced, the entry put in by the rule, or refused with nothing changed
+use Rattle.node.specs.Kinds.{root_of}
 use Rattle.std.specs.Prelude.{◌≡◌, ℕ, suc, ◌+◌, ◌<◌, ◌≤◌, [], ◌∷◌, length, Some, None, Ok, Err, Option, Result}
 use Rattle.std.specs.declared.cmp.Ordering.{Ordering}
 use Rattle.std.specs.Ordering.{is_gt}
@@ -13,15 +14,10 @@ use Rattle.node.specs.declared.nodes.NodeRef.{NodeRef}
 use Rattle.node.specs.Shape.{Tree, number, mk}
 use Rattle.node.specs.Store.{Tables, Sized, Holds, first, second}
 use Rattle.node.specs.Laws.{occurs}
-use Rattle.node.specs.Balance.{mark, Owns, Rooted, Balanced, Beside}
+use Rattle.node.specs.Balance.{mark, Owns, Rooted, Balanced, Beside, Unchanged}
 use Rattle.rules.specs.Rules.{insert, need}
 use Rattle.map.specs.Lookup.{seek}
-use Rattle.insertion.specs.Grew.{Unchanged}
 use Rattle.insertion.specs.Descent.{Swapped}
-
--- a tree by its number and height, as the code has it
-abbrev pub root_of : {E : Type 0} → ℕ × Tree E → NodeRef
-root_of p = record { node = number p.1; height = p.0 }
 
 pub record Planted {K V : Type 0} (T T' : Tables K V) (S S' : Stock) (f : ℕ → ℕ) (p : ℕ × Tree (K × V)) (n : ℕ) : Type 0 where
   pub held : Holds T' p.0 p.1

@@ -1,29 +1,18 @@
 -- What a lookup finds in the list of a tree. Assumes nothing.
+use Rattle.node.proofs.Weaves.{all_back}
+use Rattle.rules.proofs.Searches.{first_is, made_le}
+use Rattle.rules.proofs.Sorts.{sorted_parts}
 use Rattle.std.proofs.Common.{◌≡◌, ℕ, zero, suc, ◌+◌, ◌*◌, ◌≤◌, Bool, true, false, cond, List, [], ◌∷◌, ◌++◌, map, length, take, drop, Some, None, All, Contains, Option, Ordering, Less, Equal, Greater, sym, refl, ap, subst, arith, take-append-drop}
 use Rattle.std.specs.Ordering.{is_lt, is_le, is_gt}
-use Rattle.std.proofs.lemmas.List.Elements.{All-append, All-weaker, Contains-get_or, Contains-append_left, Contains-append_right, All-nil, All-cons, All-head, All-tail}
+use Rattle.std.proofs.lemmas.List.Elements.{All-append, All-weaker, Contains-get_or, Contains-append_left, Contains-append_right, All-nil, All-cons, All-head}
 use Rattle.order.specs.Found.{passed, first_not_below, found_at, comparisons}
 use Rattle.node.specs.Shape.{Tree, row, kids, kid, flat, before, after, weave, Within, root_least}
-use Rattle.node.specs.Sorted.{Sorted, Downward, Rising, index}
+use Rattle.node.specs.Sorted.{Sorted, Downward, Rising}
 use Rattle.node.specs.Store.{first}
 use Rattle.node.proofs.Sorting.{sorted_rises}
 use Rattle.rules.proofs.Nodes.{flat_open, within_fan, within_kid, within_most}
 use Rattle.rules.proofs.Ways.{index_le, index_yes, before_yes}
 use Rattle.map.specs.Lookup.{nth, seek, looks, Sought, LookupFinds, LookupAlone, LookupBound}
-
-module _ {E : Type 0} (le : E → E → Bool) where
-  sorted_parts : (xs ys : List E) → Sorted le (xs ++ ys) → Sorted le xs × Sorted le ys
-  sorted_parts [] ys s = (tt, s)
-  sorted_parts (x ∷ xs) ys s =
-      let r = sorted_parts xs ys s.1 in
-      let a = parts xs ys s.0 in
-      ((a.0, r.0), r.1)
-    where
-      parts : (us vs : List E) → All (λ y. le x y ≡ true) (us ++ vs) → All (λ y. le x y ≡ true) us × All (λ y. le x y ≡ true) vs
-      parts [] vs a = (All-nil (λ y. le x y ≡ true), a)
-      parts (u ∷ us) vs a =
-          let rest = parts us vs (All-tail (λ y. le x y ≡ true) u (us ++ vs) a) in
-          (All-cons (λ y. le x y ≡ true) u us (All-head (λ y. le x y ≡ true) u (us ++ vs) a) rest.0, rest.1)
 
 module _ {E : Type 0} (place : E → Ordering) where
   -- below the query
@@ -33,21 +22,12 @@ module _ {E : Type 0} (place : E → Ordering) where
   abbrev Not : List E → Type 0
   Not l = All (λ e. place e ≡ Equal → ⊥) l
 
-  pub first_is : (es : List E) → first_not_below place es ≡ index b es
-  first_is [] = refl
-  first_is (e ∷ es) = go (place e) (first_is es)
-    where
-      go : (o : Ordering) → first_not_below place es ≡ index b es → passed o 0 0 (first_not_below place es + 1) ≡ cond (is_gt o) (suc (index b es)) 0
-      go Less q = refl
-      go Equal q = refl
-      go Greater q = omega arith
-
   -- where the search in a node stops
   abbrev pub at : Tree E → ℕ
   at t = first_not_below place (row t)
 
   pub at_le : (t : Tree E) → at t ≤ length (row t)
-  at_le t = omega (arith, first_is (row t), index_le b (row t))
+  at_le t = omega (arith, first_is place (row t), index_le b (row t))
 
   -- the first that is not below is above, where none was found
   abbrev Above : List E → Type 0
@@ -105,7 +85,7 @@ module _ {E : Type 0} (place : E → Ordering) where
     after_above ls (e ∷ es) a = a
 
     front_below : (t : Tree E) → All (λ e. b e ≡ true) (take (at t) (row t))
-    front_below t = subst (λ i. All (λ e. b e ≡ true) (take i (row t))) (sym (first_is (row t))) (index_yes b (row t))
+    front_below t = subst (λ i. All (λ e. b e ≡ true) (take i (row t))) (sym (first_is place (row t))) (index_yes b (row t))
 
     leaf_not : (t : Tree E) → Sorted le (row t) → found_at place (row t) ≡ false → Not (row t)
     leaf_not t s f =
@@ -201,8 +181,7 @@ lookup_finds compares places q h t p w s =
 
 module _ {E : Type 0} (le : E → E → Bool) where
   all_mid : (P : E → Type 0) (xs : List E) (e : E) (ys : List E) → All P (xs ++ e ∷ ys) → P e
-  all_mid P [] e ys a = All-head P e ys a
-  all_mid P (x ∷ xs) e ys a = all_mid P xs e ys (All-tail P x (xs ++ e ∷ ys) a)
+  all_mid P xs e ys a = All-head P e ys (all_back P xs (e ∷ ys) a)
 
   sorted_mid : (xs : List E) (e : E) (ys : List E) → Sorted le (xs ++ e ∷ ys) → All (λ x. le x e ≡ true) xs × All (λ y. le e y ≡ true) ys
   sorted_mid [] e ys s = (All-nil (λ x. le x e ≡ true), s.0)
@@ -219,12 +198,6 @@ lookup_alone {K} {V} {Q} compares places q o p xs e ys s h =
     not_both c l k = let z : is_lt c ≡ false = ap is_lt k in let y : ◌≡◌ {A = ℕ} 0 1 = cc in omega arith
 
 -- ---- how many comparisons
-
-made_le : {E : Type 0} (place : E → Ordering) (es : List E) → comparisons place es ≤ length es
-made_le place [] = omega arith
-made_le place (e ∷ es) =
-    let ih = made_le place es in
-    elim (place e) as (λ o. passed o 1 1 (comparisons place es + 1) ≤ suc (length es)) [ Less ↦ omega arith | Equal ↦ omega arith | Greater ↦ omega arith ]
 
 looks_le : {E : Type 0} (place : E → Ordering) (least h : ℕ) (t : Tree E) → Within least h t → looks place h t ≤ 11 * (h + 1)
 unfolding looks

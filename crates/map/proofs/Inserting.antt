@@ -1,4 +1,5 @@
 -- An entry put into a node of either kind. Assumes nothing.
+use Rattle.node.proofs.Weaves.{all_front, all_back}
 use Rattle.std.proofs.Common.{◌≡◌, ℕ, suc, ◌+◌, ◌-◌, ◌<◌, ◌≤◌, Bool, true, false, cond, eqb, List, [], ◌∷◌, ◌++◌, length, Ok, All, Result, sym, refl, ap, ◌∙◌, subst, arith, length-append, eqb-true}
 use borrow.Author.Tests.{eqb-false}
 use Rattle.std.proofs.lemmas.List.{nil_from_length}
@@ -11,7 +12,7 @@ use Rattle.node.specs.declared.nodes.Internal.{Internal}
 use Rattle.node.specs.declared.nodes.ForceResult.TheVariants as kind
 use Rattle.node.specs.Kinds.{forced}
 use Rattle.node.specs.Store.{Tables, Sized, Node, Linked, Changed, times}
-use Rattle.node.proofs.Adopts.{times_append, all_front, all_back}
+use Rattle.node.proofs.Adopts.{times_append}
 use Rattle.node.proofs.Frames.{node_kept, linked_kept, linked_parts}
 use Rattle.node.specs.Operations.{Fan, Children, InsertsFit, InsertsEdge, Splits}
 use Rattle.map.specs.Inserts.{Edges, InsertsIn}

@@ -4,8 +4,8 @@ use lib.Seq.{split_at}
 use Rattle.order.specs.Found.{found_at}
 use Rattle.node.specs.Shape.{Tree, node, none, number, row, kids, kid, mk, flat, before, after, weave, total, weigh, Within, root_least}
 use Rattle.node.specs.Rules.{whole, swap}
-use Rattle.node.proofs.Weaves.{total_append}
-use Rattle.rules.proofs.Nodes.{flat_mk, flat_open, flat_patch, weigh_mk, within_mk, within_kid, within_least, within_most, within_fan, within_limbs}
+use Rattle.node.proofs.Weaves.{total_append, flat_mk}
+use Rattle.rules.proofs.Nodes.{flat_open, flat_patch, weigh_mk, within_mk, within_kid, within_least, within_most, within_fan, within_limbs}
 use Rattle.rules.proofs.Grows.{rise_flat, rise_within}
 use Rattle.map.specs.Lookup.{nth, seek}
 use Rattle.map.specs.Replacing.{alter, amend, Altered, AmendList, AmendFormed}

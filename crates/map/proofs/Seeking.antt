@@ -1,48 +1,19 @@
 -- Lookup in one node, and down from it. Assumes nothing.
-use Rattle.std.proofs.Common.{◌≡◌, ℕ, zero, suc, ◌+◌, ◌-◌, ◌*◌, ◌<◌, ◌≤◌, Bool, true, false, cond, List, [], ◌∷◌, ◌++◌, map, length, get_or, take, drop, Some, None, Ok, Result, Ordering, Less, Equal, Greater, sym, refl, ap, ◌∙◌, subst, ap₂, arith}
+use Rattle.rules.proofs.Searches.{first_map, found_map, made_map, first_within, found_within}
+use Rattle.std.proofs.Common.{◌≡◌, ℕ, zero, suc, ◌+◌, ◌-◌, ◌*◌, ◌<◌, Bool, true, false, cond, List, [], ◌∷◌, ◌++◌, map, length, get_or, take, drop, Some, None, Ok, Result, Ordering, sym, refl, ap, ◌∙◌, subst, ap₂, arith}
 use lib.ListN.{length-map}
 use lib.Seq.{split_at}
 use Rattle.std.proofs.lemmas.List.{length-take-le, get_or-map}
 use Rattle.order.specs.declared.search.SearchResult.TheVariants.{Found, GoDown}
-use Rattle.order.specs.Found.{passed, first_not_below, found_at, comparisons}
+use Rattle.order.specs.Found.{first_not_below, found_at, comparisons}
 use Rattle.node.specs.Cells.{span, Run}
 use Rattle.node.specs.Shape.{Tree, node, none, number, row, kids, kid}
-use Rattle.node.specs.Store.{Tables, Sized, Node, Holds, head_at, first, second, numbers}
+use Rattle.node.specs.Store.{Tables, Sized, Node, Holds, head_at, first, second, numbers, keys_at}
 use Rattle.node.specs.Operations.{Strange}
 use Rattle.node.proofs.Tabled.{not_strange}
 use Rattle.node.proofs.Runs.{run_at, edge_is}
 use Rattle.node.proofs.Frames.{height_suc, holds_node, holds_fan, holds_kid}
-use Rattle.map.specs.Lookup.{nth, seek, looks, value_of, keys_at, FoundIn, PassedIn}
-
--- ---- a search among what a function reads of entries
-
-module _ {K E : Type 0} (f : E → K) (place : K → Ordering) where
-  pub first_map : (es : List E) → first_not_below place (map f es) ≡ first_not_below (λ e. place (f e)) es
-  first_map [] = refl
-  first_map (e ∷ es) = ap (λ n. passed (place (f e)) 0 0 (n + 1)) (first_map es)
-
-  pub found_map : (es : List E) → found_at place (map f es) ≡ found_at (λ e. place (f e)) es
-  found_map [] = refl
-  found_map (e ∷ es) = ap (λ b. passed (place (f e)) false true b) (found_map es)
-
-  pub made_map : (es : List E) → comparisons place (map f es) ≡ comparisons (λ e. place (f e)) es
-  made_map [] = refl
-  made_map (e ∷ es) = ap (λ n. passed (place (f e)) 1 1 (n + 1)) (made_map es)
-
-pub first_within : {E : Type 0} (place : E → Ordering) (es : List E) → first_not_below place es ≤ length es
-first_within place [] = omega arith
-first_within place (e ∷ es) =
-    let ih = first_within place es in
-    elim (place e) as (λ o. passed o 0 0 (first_not_below place es + 1) ≤ suc (length es)) [ Less ↦ omega arith | Equal ↦ omega arith | Greater ↦ omega arith ]
-
-pub found_within : {E : Type 0} (place : E → Ordering) (es : List E) → found_at place es ≡ true → first_not_below place es < length es
-found_within place [] h = let z : ◌≡◌ {A = ℕ} 0 1 = cc in absurd (omega arith)
-found_within place (e ∷ es) h = go (place e) h (λ q. found_within place es q)
-  where
-    go : (o : Ordering) → passed o false true (found_at place es) ≡ true → (found_at place es ≡ true → first_not_below place es < length es) → passed o 0 0 (first_not_below place es + 1) < suc (length es)
-    go Less q ih = omega arith
-    go Equal q ih = omega arith
-    go Greater q ih = omega (arith, ih q)
+use Rattle.map.specs.Lookup.{nth, seek, looks, value_of, FoundIn, PassedIn}
 
 -- what a result says of the flag and the index
 pub was_found : (b : Bool) (i j : ℕ) → cond b (Found i) (GoDown i) ≡ Found j → (b ≡ true) × (i ≡ j)

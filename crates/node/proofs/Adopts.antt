@@ -5,7 +5,7 @@ use Rattle.std.proofs.lemmas.Bool.{cases_eq, cases_lt}
 use Rattle.std.proofs.lemmas.Bool.Decides.{nat_tests}
 use Rattle.node.specs.declared.head.Head.{Head}
 use Rattle.node.specs.Store.{head_in, no_head, times}
-use Rattle.std.proofs.lemmas.List.Elements.{All-get_or, All-nil, All-cons, All-head, All-tail}
+use Rattle.std.proofs.lemmas.List.Elements.{All-get_or}
 use Rattle.node.specs.Cells.{span}
 use Rattle.node.specs.Links.{Adopted, relink, edge}
 use Rattle.node.proofs.Spans.{span_more, span_len, span_at}
@@ -23,15 +23,6 @@ pub times_at : (xs : List ℕ) (j : ℕ) → j < length xs → 1 ≤ times (get_
 times_at [] j l = absurd (omega arith)
 times_at (y ∷ xs) zero l = grind (arith, nat_tests)
 times_at (y ∷ xs) (suc j) l = omega (arith, times_at xs j (omega arith))
-
--- what holds of each of a list, of its parts
-pub all_front : (P : ℕ → Type 0) (xs ys : List ℕ) → All P (xs ++ ys) → All P xs
-all_front P [] ys a = All-nil P
-all_front P (x ∷ xs) ys a = All-cons P x xs (All-head P x (xs ++ ys) a) (all_front P xs ys (All-tail P x (xs ++ ys) a))
-
-pub all_back : (P : ℕ → Type 0) (xs ys : List ℕ) → All P (xs ++ ys) → All P ys
-all_back P [] ys a = a
-all_back P (x ∷ xs) ys a = all_back P xs ys (All-tail P x (xs ++ ys) a)
 
 -- a write to head y that keeps a field keeps that field everywhere
 pub kept_by_set : {X : Type 0} (f : Head → X) (H : List Head) (y : ℕ) (h : Head) → f h ≡ f (head_in H y) → y < length H → (x : ℕ) → f (head_in (set H y h) x) ≡ f (head_in H x)

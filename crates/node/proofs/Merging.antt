@@ -1,4 +1,5 @@
 -- Two neighbours and the entry between them in one node. Assumes nothing.
+use Rattle.node.proofs.Weaves.{all_front, all_back}
 use Rattle.std.proofs.Common.{◌≡◌, ℕ, ◌+◌, ◌-◌, ◌*◌, ◌<◌, ◌≤◌, List, [], ◌∷◌, ◌++◌, map, length, Ok, All, Result, sym, refl, ap, ◌∙◌, subst, ap₂, arith, length-append}
 use Rattle.std.proofs.lemmas.List.Elements.{All-weaker}
 use Rattle.std.proofs.lemmas.List.{map-append, append_assoc}
@@ -10,7 +11,7 @@ use Rattle.node.specs.Store.{tables, Node, Linked, Changed, head_in, first, seco
 use Rattle.node.specs.Links.{Adopted}
 use Rattle.node.specs.Rows.{MergedRow}
 use Rattle.node.specs.Operations.{Pairs, Children, Fan}
-use Rattle.node.proofs.Adopts.{times_append, times_one, all_front, all_back}
+use Rattle.node.proofs.Adopts.{times_append, times_one}
 use Rattle.node.proofs.Runs.{run_parts, run_three, edges_remove, edges_tail, edges_part, edges_part_of}
 use Rattle.node.proofs.Tabled.{Rewritten, Relinked, Kept, rewritten_none, rewritten_set, refit, refit_same, refit_other, relinked_none, relinked_adopted, relinked_both, changed_of, node_of, linked_of, linked_at}
 

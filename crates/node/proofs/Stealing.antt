@@ -1,4 +1,5 @@
 -- Entries that go over between two neighbours, through the entry between them. Assumes nothing.
+use Rattle.node.proofs.Weaves.{all_front, all_back}
 use Rattle.std.proofs.Common.{◌≡◌, ℕ, ◌+◌, ◌-◌, ◌*◌, ◌<◌, ◌≤◌, List, [], ◌∷◌, ◌++◌, length, All, sym, refl, ap, ◌∙◌, subst, ap₂, ⊎_elim, arith, length-append}
 use Rattle.std.proofs.lemmas.Bool.{cases_lt}
 use Rattle.std.proofs.lemmas.List.Elements.{All-weaker}
@@ -9,7 +10,7 @@ use Rattle.node.specs.Rows.{StolenLeft, StolenRight}
 use Rattle.node.specs.Store.{tables, Node, Linked, Changed, head_in, first, second, itself, times}
 use Rattle.node.specs.Links.{Adopted}
 use Rattle.node.specs.Operations.{Pairs, Children, Fan}
-use Rattle.node.proofs.Adopts.{times_append, times_one, all_front, all_back}
+use Rattle.node.proofs.Adopts.{times_append, times_one}
 use Rattle.node.proofs.Runs.{run_three, run_next, run_changed, run_same, run_parts, run_append, run_behind, put_run, edges_tail, edges_part, edges_part_of, itself_map}
 use Rattle.node.proofs.Tabled.{Rewritten, Relinked, Kept, refit, refit_other, rewritten_as, both_rewritten, both_first, both_second, relinked_none, relinked_adopted, relinked_both, changed_of, node_of, linked_of, linked_at}
 

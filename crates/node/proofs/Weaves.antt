@@ -1,15 +1,19 @@
 -- Entries woven between lists, and sums over lists. Assumes nothing.
 use Rattle.std.proofs.Common.{◌≡◌, ℕ, zero, suc, ◌+◌, ◌*◌, ◌<◌, ◌≤◌, List, [], ◌∷◌, ◌++◌, map, length, get_or, take, drop, All, sym, refl, ap, ◌∙◌, ⊎_elim, append_assoc, append-nil, arith, length-append}
 use lib.Seq.{split_at}
-use Rattle.std.proofs.lemmas.List.Elements.{All-tail}
+use Rattle.std.proofs.lemmas.List.Elements.{All-tail, All-nil, All-cons, All-head}
 use Rattle.std.proofs.lemmas.Bool.{cases_lt}
-use Rattle.node.specs.Shape.{Tree, trees, forest, weave, before, after, total}
+use Rattle.node.specs.Shape.{Tree, trees, forest, weave, before, after, total, flat, mk}
 
 pub trees_forest : {E : Type 0} (ts : List (Tree E)) → trees (forest ts) ≡ ts
 trees_forest [] = refl
 trees_forest (t ∷ ts) = ap (λ r. t ∷ r) (trees_forest ts)
 
 module _ {E : Type 0} where
+  pub flat_mk : (h m : ℕ) (es : List E) (ks : List (Tree E)) → flat (suc h) (mk m es ks) ≡ weave (map (flat h) ks) es
+  unfolding flat
+  flat_mk h m es ks = ap (λ r. weave (map (flat h) r) es) (trees_forest ks)
+
   pub weave_long : (c : ℕ) (ls : List (List E)) (es : List E) → length ls ≡ suc (length es) → All (λ l. c ≤ length l + 1) ls → length ls * c ≤ length (weave ls es) + 1
   weave_long c [] es q a = absurd (omega arith)
   weave_long c (l ∷ []) [] q a = omega (arith, a 0 l (omega arith))
@@ -116,3 +120,19 @@ module _ {X : Type 0} where
   -- each element's weights are at most the sums
   pub total_each : (f : ℕ → X → ℕ) (xs : List X) → All (λ x. (n : ℕ) → f n x ≤ total (f n) xs) xs
   total_each f xs = λ k d l n. total_at (f n) xs k d l
+
+-- what holds of each of a list, of its parts, and of lists of one and two
+module _ {X : Type 0} (P : X → Type 0) where
+  pub all_front : (xs ys : List X) → All P (xs ++ ys) → All P xs
+  all_front [] ys a = All-nil P
+  all_front (x ∷ xs) ys a = All-cons P x xs (All-head P x (xs ++ ys) a) (all_front xs ys (All-tail P x (xs ++ ys) a))
+
+  pub all_back : (xs ys : List X) → All P (xs ++ ys) → All P ys
+  all_back [] ys a = a
+  all_back (x ∷ xs) ys a = all_back xs ys (All-tail P x (xs ++ ys) a)
+
+  pub all_one : (x : X) → P x → All P (x ∷ [])
+  all_one x p = All-cons P x [] p (All-nil P)
+
+  pub all_two : (x y : X) → P x → P y → All P (x ∷ y ∷ [])
+  all_two x y p q = All-cons P x (y ∷ []) p (all_one y q)

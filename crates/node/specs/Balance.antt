@@ -4,6 +4,7 @@
 --   Rooted T m           node m names no parent
 --   Balanced S S' f g    a part that had the numbers f has the numbers g now, and what is out has changed by just that
 --   Beside T T' S f      every node that was out and is not of the part f is as it was
+--   Unchanged            tables and supply are as they were
 -- Where x was out and is not of the part, f x is 0 and mark S x is 1, so that f x < mark S x says just this.
 use Rattle.std.specs.Prelude.{◌≡◌, ℕ, ◌+◌, ◌<◌, ◌≤◌, cond, length}
 use Rattle.supply.specs.Stocks.{Stock, size_of, is_out, outs_of}
@@ -34,6 +35,10 @@ pub record Beside {K V : Type 0} (T T' : Tables K V) (S : Stock) (f : ℕ → �
   pub values_len : length T'.values ≡ length T.values
   pub bodies : (x : ℕ) → f x < mark S x → SameBody T T' x
   pub links : (x : ℕ) → f x < mark S x → SameLink T T' x
+
+pub record Unchanged {K V : Type 0} (T T' : Tables K V) (S S' : Stock) : Type 0 where
+  pub tables_same : T' ≡ T
+  pub stock_same : S' ≡ S
 
 -- a tree that stands beside the part is still held
 abbrev pub FrameBeside : Type 0 → Type 0 → Type 0

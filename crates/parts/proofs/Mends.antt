@@ -2,7 +2,7 @@
 use Rattle.std.proofs.Common.{◌≡◌, ℕ, zero, suc, ◌+◌, ◌-◌, ◌<◌, ◌≤◌, Bool, true, false, cond, ltb, leb, List, [], ◌∷◌, ◌++◌, map, length, get_or, take, drop, All, sym, refl, ap, ◌∙◌, subst, append-nil, arith, length-append, length-drop, take-append-drop, length-take, drop-cons, get_or-append-add}
 use lib.ListN.{length-map}
 use lib.Seq.{split_at, take-nil, drop-nil, take-append-le, drop-append-le, take-append-add, drop-append-add}
-use Rattle.std.proofs.lemmas.List.Elements.{All-take, All-drop, All-append, All-nil, All-cons}
+use Rattle.std.proofs.lemmas.List.Elements.{All-take, All-drop, All-append, All-nil}
 use Rattle.std.proofs.lemmas.List.{map-append, nil_from_length, get_or_append_left}
 use Rattle.std.proofs.lemmas.Bool.{cond_both, leb-true, leb-false, ltb-true, ltb-false}
 use Rattle.node.specs.Shape.{Tree, node, none, number, row, kids, kid, mk, flat, weave, before, after, Within, Formed, fan_out, root_least}
@@ -14,8 +14,8 @@ use Rattle.node.specs.Sorted.{Sorted, index}
 use Rattle.rules.specs.Rules.{low, high, flats, part}
 use Rattle.parts.specs.Rules.{cut_left, cut_right, beside, onward, fill, mend_at, mend, lifted, fix_top, repair, left_part, right_part}
 use Rattle.parts.specs.Laws.{CutFormed, CutFlat, CutParts, CutSorted}
-use Rattle.node.proofs.Weaves.{weave_cons, weave_join}
-use Rattle.rules.proofs.Nodes.{flat_mk, flat_leaf, flat_inner, flat_patch, within_mk, within_least, within_most, within_fan, within_limbs, within_from, within_kid, part_flat, risen, sprung, fan_take, fan_drop}
+use Rattle.node.proofs.Weaves.{weave_cons, weave_join, flat_mk, all_one, all_two}
+use Rattle.rules.proofs.Nodes.{flat_leaf, flat_inner, flat_patch, within_mk, within_least, within_most, within_fan, within_limbs, within_from, within_kid, part_flat, risen, sprung, fan_take, fan_drop}
 use Rattle.rules.proofs.Sorts.{sorted_parts}
 use Rattle.rules.proofs.Ways.{index_le, way_flat, way_sides}
 use Rattle.parts.proofs.Borders.{around_right, around_take, around_drop, around_at, around_off, Edge, Fringe, edge_mk, edge_most, edge_fan, edge_fringe, edge_leaf, fringe_last, fringe_first, fringe_last_part, fringe_first_part}
@@ -197,18 +197,12 @@ module _ {E : Type 0} where
   abbrev pub Mends : Side → ℕ → (Tree E → Tree E) → Type 0
   Mends s h f = (k : Tree E) → Edge s h k → 5 ≤ length (row k) → Within 4 h (f k) × (flat h (f k) ≡ flat h k)
 
-  one : (h : ℕ) (k : Tree E) → Within 4 h k → All (Within 4 h) (k ∷ [])
-  one h k a = All-cons (Within 4 h) k [] a (All-nil (Within 4 h))
-
-  two : (h : ℕ) (l r : Tree E) → Within 4 h l → Within 4 h r → All (Within 4 h) (l ∷ r ∷ [])
-  two h l r a c = All-cons (Within 4 h) l (r ∷ []) a (one h r c)
-
   pub onward_ok : (s : Side) (h : ℕ) (f : Tree E → Tree E) → Mends s h f → (g : Grown E) → Ready s h g
       → All (Within 4 h) (sprung (onward s f g)) × (flats h (onward s f g) ≡ flats h g)
-  onward_ok First h f ih (whole k) a = (one h (f k) (ih k a.0 a.1).0, (ih k a.0 a.1).1)
-  onward_ok First h f ih (parted l x r) a = (two h (f l) r (ih l a.0 a.1).0 a.2, ap (λ z. z ++ x ∷ flat h r) (ih l a.0 a.1).1)
-  onward_ok Last h f ih (whole k) a = (one h (f k) (ih k a.0 a.1).0, (ih k a.0 a.1).1)
-  onward_ok Last h f ih (parted l x r) a = (two h l (f r) a.0 (ih r a.1 a.2).0, ap (λ z. flat h l ++ x ∷ z) (ih r a.1 a.2).1)
+  onward_ok First h f ih (whole k) a = (all_one (Within 4 h) (f k) (ih k a.0 a.1).0, (ih k a.0 a.1).1)
+  onward_ok First h f ih (parted l x r) a = (all_two (Within 4 h) (f l) r (ih l a.0 a.1).0 a.2, ap (λ z. z ++ x ∷ flat h r) (ih l a.0 a.1).1)
+  onward_ok Last h f ih (whole k) a = (all_one (Within 4 h) (f k) (ih k a.0 a.1).0, (ih k a.0 a.1).1)
+  onward_ok Last h f ih (parted l x r) a = (all_two (Within 4 h) l (f r) a.0 (ih r a.1 a.2).0, ap (λ z. flat h l ++ x ∷ z) (ih r a.1 a.2).1)
 
   pub fill_is : (m : ℕ) (es fs : List E) (ks ls : List (Tree E)) (g : Grown E) → fill m es fs ks ls g ≡ mk m (es ++ (risen g ++ fs)) (ks ++ (sprung g ++ ls))
   fill_is m es fs ks ls (whole k) = refl

@@ -18,14 +18,13 @@ use Rattle.node.proofs.Balances.{mark_most, balanced_as, beside_more, beside_hol
 use Rattle.node.proofs.Frames.{height_suc, holds_node, holds_fan, holds_linked, holds_kids, holds_from, node_same, linked_same}
 use Rattle.node.proofs.Numbers.{same_self, same_other, occurs_mk, tops_occur}
 use Rattle.node.proofs.Tabled.{err_not_ok, ok_same}
-use Rattle.node.proofs.Weaves.{trees_forest, total_append}
+use Rattle.node.proofs.Weaves.{trees_forest, total_append, all_front, all_back}
 use Rattle.rules.proofs.Nodes.{risen}
 use Rattle.parts.specs.Rules.{beside, onward, fill, mend_at, mend}
 use Rattle.parts.proofs.Mends.{beside_end, two_at}
 use Rattle.repair.specs.Repair.{Became, Mended, Mends}
 use Rattle.repair.specs.Joint.{border, Neighbours, Joined, Joins}
 use Rattle.repair.proofs.Becoming.{became_none, became_both, became_owns}
-use Rattle.repair.proofs.Pairs.{alls_front, alls_back}
 
 -- ---- a child in another form
 
@@ -61,7 +60,7 @@ module _ {K V : Type 0} (T T' : Tables K V) (S S' : Stock) (h p : ℕ) (es : Lis
   kid_owns = record {
     sized = o.sized;
     fits = o.fits;
-    holds = All-head (Holds T h) k B (alls_back (Holds T h) A (k ∷ B) all_kids);
+    holds = All-head (Holds T h) k B (all_back (Holds T h) A (k ∷ B) all_kids);
     owned = λ x. omega (arith, sum x);
   }
 
@@ -86,8 +85,8 @@ module _ {K V : Type 0} (T T' : Tables K V) (S S' : Stock) (h p : ℕ) (es : Lis
         (length-append A (k' ∷ B) ∙ sym (length-append A (k ∷ B)) ∙ sym (ap length same_kids) ∙ holds_fan T h old o.holds)
         (subst (λ ns. Linked T' p 0 ns) (sym names) (linked_same T T' p 0 (map number (kids old)) links (holds_linked T h old o.holds)))
         (All-append (Holds T' h) A (k' ∷ B)
-        (beside_all T T' S (λ x. occurs x h k) h v.beside A (λ x. omega (arith, sum x)) (alls_front (Holds T h) A (k ∷ B) all_kids))
-        (All-cons (Holds T' h) k' B v.holds (beside_all T T' S (λ x. occurs x h k) h v.beside B (λ x. omega (arith, sum x)) (All-tail (Holds T h) k B (alls_back (Holds T h) A (k ∷ B) all_kids)))))
+        (beside_all T T' S (λ x. occurs x h k) h v.beside A (λ x. omega (arith, sum x)) (all_front (Holds T h) A (k ∷ B) all_kids))
+        (All-cons (Holds T' h) k' B v.holds (beside_all T T' S (λ x. occurs x h k) h v.beside B (λ x. omega (arith, sum x)) (All-tail (Holds T h) k B (all_back (Holds T h) A (k ∷ B) all_kids)))))
 
     pub kid_became : Became T T' S S' (suc h) old (suc h) new
     kid_became = record {

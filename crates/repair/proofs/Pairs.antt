@@ -2,7 +2,7 @@
 use Rattle.std.proofs.Common.{◌≡◌, ℕ, zero, suc, ◌+◌, ◌-◌, ◌<◌, ◌≤◌, List, [], ◌∷◌, ◌++◌, map, length, get_or, take, drop, Ok, All, Result, sym, refl, ap, ◌∙◌, subst, arith, length-append, length-drop, take-append-drop, length-take}
 use lib.ListN.{length-map}
 use lib.Seq.{split_at}
-use Rattle.std.proofs.lemmas.List.Elements.{All-nil, All-cons, All-head, All-tail, All-append, All-take, All-drop}
+use Rattle.std.proofs.lemmas.List.Elements.{All-cons, All-head, All-tail, All-append, All-take, All-drop}
 use Rattle.std.proofs.lemmas.List.{nil_from_length, map-append}
 use Rattle.supply.specs.declared.faults.Fault.{Fault}
 use Rattle.supply.specs.Stocks.{Stock, Returned}
@@ -19,20 +19,11 @@ use Rattle.node.proofs.Balances.{mark_most, balanced_as, balanced_none, balanced
 use Rattle.node.proofs.Frames.{holds_node, holds_fan, holds_linked, holds_kids, holds_from, linked_parts, linked_append, linked_kept, all_kept}
 use Rattle.node.proofs.Numbers.{same_self, occurs_parts, occurs_mk, tops_occur}
 use Rattle.node.proofs.Tabled.{fan_at}
-use Rattle.node.proofs.Weaves.{trees_forest, total_append, total_cut}
+use Rattle.node.proofs.Weaves.{trees_forest, total_append, total_cut, all_front, all_back}
 use Rattle.rules.specs.Held.{Held}
 use Rattle.rules.proofs.Branches.{held_from, held_to, occurs_held, tops_parts, tops_inside}
 use Rattle.repair.specs.Repair.{Became}
 use Rattle.repair.specs.Joint.{Neighbours}
-
--- parts of what holds of all
-pub alls_front : {X : Type 0} (P : X → Type 0) (xs ys : List X) → All P (xs ++ ys) → All P xs
-alls_front P [] ys a = All-nil P
-alls_front P (x ∷ xs) ys a = All-cons P x xs (All-head P x (xs ++ ys) a) (alls_front P xs ys (All-tail P x (xs ++ ys) a))
-
-pub alls_back : {X : Type 0} (P : X → Type 0) (xs ys : List X) → All P (xs ++ ys) → All P ys
-alls_back P [] ys a = a
-alls_back P (x ∷ xs) ys a = alls_back P xs ys (All-tail P x (xs ++ ys) a)
 
 -- a tree's root and its children
 pub occurs_kids : {E : Type 0} (x h : ℕ) (t : Tree E) → (h ≡ 0 → length (kids t) ≡ 0) → occurs x h t ≡ same x (number t) + total (occurs x (h - 1)) (kids t)
@@ -85,10 +76,10 @@ module _ {K V : Type 0} (T : Tables K V) (S : Stock) (h p i : ℕ) (us : List (K
   all_kids = subst (All (Holds T h)) same_kids (holds_kids T h old holds)
 
   held_a : All (Holds T h) A
-  held_a = alls_front (Holds T h) A (l ∷ r ∷ B) all_kids
+  held_a = all_front (Holds T h) A (l ∷ r ∷ B) all_kids
 
   held_rest : All (Holds T h) (l ∷ r ∷ B)
-  held_rest = alls_back (Holds T h) A (l ∷ r ∷ B) all_kids
+  held_rest = all_back (Holds T h) A (l ∷ r ∷ B) all_kids
 
   held_b : All (Holds T h) B
   held_b = All-tail (Holds T h) r B (All-tail (Holds T h) l (r ∷ B) held_rest)

@@ -1,4 +1,5 @@
 -- The top, the border, and the top again. Assumes nothing.
+use Rattle.node.specs.Kinds.{root_of}
 use Rattle.std.proofs.Common.{◌≡◌, ℕ, zero, suc, ◌≤◌, List, [], ◌∷◌, Ok, Err, Result, refl, ◌∙◌, subst, arith}
 use Rattle.supply.specs.declared.faults.Fault.{Fault}
 use Rattle.supply.specs.Stocks.{Stock}
@@ -9,7 +10,7 @@ use Rattle.node.specs.Store.{Tables}
 use Rattle.node.specs.Balance.{Owns, Rooted}
 use Rattle.node.proofs.Tabled.{err_not_ok, ok_same}
 use Rattle.parts.specs.Rules.{fix_top, lifted, mend, repair}
-use Rattle.repair.specs.Repair.{Became, Topped, Mended, FixesTop, Mends, root_of}
+use Rattle.repair.specs.Repair.{Became, Topped, Mended, FixesTop, Mends}
 use Rattle.repair.proofs.Becoming.{became_both, became_owns}
 use Rattle.repair.proofs.Mending.{mend_number}
 

@@ -1,10 +1,10 @@
 -- The repair of a tree's border, in tables and supply.
 --   Became       the tables hold u where they held t, the supply has back what t had and u has not, and all else that is out is as it was
---   root_of       the answer for a tree with its height: the number of its root, and that height
 --   Topped       so it is of a root, and of what is the root in its place
 --   FixesTop     the roots without entries are taken off
 --   Mends        the border at side s is mended, from a node down; the node keeps its number and its link
 --   Repairs      the border of a root is repaired: its top, its border, and its top again
+use Rattle.node.specs.Kinds.{root_of}
 use Rattle.std.specs.Prelude.{◌≡◌, ℕ, ◌≤◌, Ok, Result}
 use Rattle.supply.specs.declared.faults.Fault.{Fault}
 use Rattle.supply.specs.Stocks.{Stock}
@@ -21,9 +21,6 @@ pub record Became {K V : Type 0} (T T' : Tables K V) (S S' : Stock) (h : ℕ) (t
   pub holds : Holds T' k u
   pub balanced : Balanced S S' (λ x. occurs x h t) (λ x. occurs x k u)
   pub beside : Beside T T' S (λ x. occurs x h t)
-
-abbrev pub root_of : {E : Type 0} → ℕ × Tree E → NodeRef
-root_of p = record { node = number p.1; height = p.0 }
 
 -- a root t, in whose place p stands now
 pub record Topped {K V : Type 0} (T T' : Tables K V) (S S' : Stock) (h : ℕ) (t : Tree (K × V)) (p : ℕ × Tree (K × V)) (r : Result NodeRef Fault) : Type 0 where

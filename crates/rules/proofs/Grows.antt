@@ -1,15 +1,15 @@
 -- Insertion: what it keeps and what it adds.
 use Rattle.std.proofs.Common.{◌≡◌, ℕ, zero, suc, ◌+◌, ◌<◌, ◌≤◌, Bool, cond, ltb, leb, List, [], ◌∷◌, ◌++◌, map, length, get_or, take, drop, All, sym, refl, ap, ◌∙◌, subst, ap₂, append_assoc, arith, length-append, length-drop, take-append-drop, length-take}
 use lib.Seq.{split_at}
-use Rattle.std.proofs.lemmas.List.Elements.{All-take, All-drop, All-append, All-nil, All-cons}
+use Rattle.std.proofs.lemmas.List.Elements.{All-take, All-drop, All-append, All-cons}
 use Rattle.std.proofs.lemmas.Bool.{cond_both, cond-true, cond-false, leb-true, leb-false, ltb-true, ltb-false, lt-ltb, le-ltb, le-leb, lt-leb}
 use Rattle.node.specs.Shape.{Tree, node, none, number, row, kids, kid, mk, flat, weave, before, after, total, weigh, Within, Formed, fan_out, root_least}
 use Rattle.rules.specs.Rules.{low, high, flats, part, rise, grow, planted, run, upto}
 use Rattle.node.specs.Rules.{Grown, whole, parted, settle, put, swap}
 use Rattle.node.specs.Sorted.{index}
 use Rattle.rules.specs.Laws.{InsertFormed, InsertFlat, InsertNumbers, InsertSize, GrowAgrees}
-use Rattle.node.proofs.Weaves.{trees_forest, total_append}
-use Rattle.rules.proofs.Nodes.{flat_mk, flat_leaf, flat_patch, weigh_mk, within_mk, within_least, within_most, within_fan, within_limbs, within_kid, Limbs, part_flat, part_weigh, part_within}
+use Rattle.node.proofs.Weaves.{trees_forest, total_append, flat_mk, all_two}
+use Rattle.rules.proofs.Nodes.{flat_leaf, flat_patch, weigh_mk, within_mk, within_least, within_most, within_fan, within_limbs, within_kid, Limbs, part_flat, part_weigh, part_within}
 use Rattle.rules.proofs.Ways.{index_le}
 use Rattle.rules.proofs.Puts.{Fits, part_low, part_high}
 
@@ -73,7 +73,7 @@ module _ {E : Type 0} where
   pub planted_formed : (top h : ℕ) (g : Grown E) → Withins (root_least h) h g → Formed (planted top h g).0 (planted top h g).1
   planted_formed top h (whole t) w = w
   planted_formed top h (parted l x r) w = within_mk 1 (suc h) top (x ∷ []) (l ∷ r ∷ []) (omega arith) (omega arith) refl
-      (All-cons (Within 4 h) l (r ∷ []) w.0 (All-cons (Within 4 h) r [] w.1 (All-nil (Within 4 h))))
+      (all_two (Within 4 h) l r w.0 w.1)
 
   pub planted_flat : (top h : ℕ) (g : Grown E) → flat (planted top h g).0 (planted top h g).1 ≡ flats h g
   planted_flat top h (whole t) = refl

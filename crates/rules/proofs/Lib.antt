@@ -1,3 +1,4 @@
+pub mod Searches
 pub mod Nodes
 pub mod Ways
 pub mod Puts

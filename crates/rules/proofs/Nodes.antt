@@ -9,10 +9,6 @@ use Rattle.node.specs.Rules.{Grown, whole, parted}
 use Rattle.node.proofs.Weaves.{trees_forest, weave_cons, weave_mid, weave_part, total_cut}
 
 module _ {E : Type 0} where
-  pub flat_mk : (h m : ℕ) (es : List E) (ks : List (Tree E)) → flat (suc h) (mk m es ks) ≡ weave (map (flat h) ks) es
-  unfolding flat
-  flat_mk h m es ks = ap (λ r. weave (map (flat h) r) es) (trees_forest ks)
-
   pub flat_leaf : (t : Tree E) → flat zero t ≡ row t
   unfolding flat
   flat_leaf t = refl

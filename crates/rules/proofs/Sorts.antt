@@ -1,6 +1,7 @@
 -- Sorted entries.
+use Rattle.node.proofs.Weaves.{all_front, all_back}
 use Rattle.std.proofs.Common.{◌≡◌, Bool, true, false, List, [], ◌∷◌, ◌++◌, All, sym, subst}
-use Rattle.std.proofs.lemmas.List.Elements.{All-append, All-weaker, All-nil, All-cons, All-head, All-tail}
+use Rattle.std.proofs.lemmas.List.Elements.{All-append, All-weaker, All-cons, All-head, All-tail}
 use Rattle.node.specs.Shape.{flat, root_least}
 use Rattle.rules.specs.Rules.{low, high}
 use Rattle.rules.specs.Laws.{InsertSorted}
@@ -10,25 +11,19 @@ use Rattle.node.proofs.Sorting.{sorted_rises}
 use Rattle.rules.proofs.Grows.{insert_flat}
 
 module _ {E : Type 0} (le : E → E → Bool) where
-  all_parts : (P : E → Type 0) (xs ys : List E) → All P (xs ++ ys) → All P xs × All P ys
-  all_parts P [] ys a = (All-nil P, a)
-  all_parts P (x ∷ xs) ys a =
-      let r = all_parts P xs ys (All-tail P x (xs ++ ys) a) in (All-cons P x xs (All-head P x (xs ++ ys) a) r.0, r.1)
-
   pub sorted_parts : (xs ys : List E) → Sorted le (xs ++ ys) → Sorted le xs × Sorted le ys
   sorted_parts [] ys s = (tt, s)
   sorted_parts (x ∷ xs) ys s =
       let r = sorted_parts xs ys s.1 in
-      let a = all_parts (λ y. le x y ≡ true) xs ys s.0 in
-      ((a.0, r.0), r.1)
+      ((all_front (λ y. le x y ≡ true) xs ys s.0, r.0), r.1)
 
   sorted_put : (xs ys : List E) (e : E) → Sorted le (xs ++ ys) → All (λ x. le x e ≡ true) xs → All (λ y. le e y ≡ true) ys → Sorted le (xs ++ e ∷ ys)
   sorted_put [] ys e s a c = (c, s)
-  sorted_put (x ∷ xs) ys e s a c =
-      let u = all_parts (λ y. le x y ≡ true) xs ys s.0 in (
-        All-append (λ y. le x y ≡ true) xs (e ∷ ys) u.0 (All-cons (λ y. le x y ≡ true) e ys (All-head (λ y. le y e ≡ true) x xs a) u.1),
-        sorted_put xs ys e s.1 (All-tail (λ y. le y e ≡ true) x xs a) c,
-      )
+  sorted_put (x ∷ xs) ys e s a c = (
+    All-append (λ y. le x y ≡ true) xs (e ∷ ys) (all_front (λ y. le x y ≡ true) xs ys s.0)
+        (All-cons (λ y. le x y ≡ true) e ys (All-head (λ y. le y e ≡ true) x xs a) (all_back (λ y. le x y ≡ true) xs ys s.0)),
+    sorted_put xs ys e s.1 (All-tail (λ y. le y e ≡ true) x xs a) c,
+  )
 
 pub insert_sorted : {E : Type 0} → InsertSorted E
 insert_sorted le fresh top b e h t w down under over s =

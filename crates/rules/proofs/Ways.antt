@@ -1,4 +1,5 @@
 -- The way of the index: what stands left and right of it.
+use Rattle.node.proofs.Weaves.{all_front, all_back}
 use Rattle.std.proofs.Common.{◌≡◌, ℕ, zero, suc, ◌≤◌, Bool, true, false, List, [], ◌∷◌, ◌++◌, map, length, take, drop, All, sym, ap, ◌∙◌, subst, ⊎_elim, append_assoc, arith, take-append-drop}
 use Rattle.std.proofs.lemmas.List.Elements.{All-append, All-nil, All-cons, All-head, All-tail}
 use Rattle.std.proofs.lemmas.Bool.{cases_Bool, both_ways, cond_both}
@@ -40,9 +41,7 @@ module _ {E : Type 0} (b : E → Bool) where
   index_stops (e ∷ es) = cond_both (b e) (suc (index b es)) 0 (λ i. Stops (drop i (e ∷ es))) (λ q. index_stops es) (λ q. q)
 
   pub no_parts : (xs ys : List E) → No (xs ++ ys) → No xs × No ys
-  no_parts [] ys a = (All-nil IsNo, a)
-  no_parts (x ∷ xs) ys a =
-      let r = no_parts xs ys (All-tail IsNo x (xs ++ ys) a) in (All-cons IsNo x xs (All-head IsNo x (xs ++ ys) a) r.0, r.1)
+  no_parts xs ys a = (all_front IsNo xs ys a, all_back IsNo xs ys a)
 
   pub rising_parts : (xs ys : List E) → Rising b (xs ++ ys) → Rising b xs × Rising b ys
   rising_parts [] ys r = (tt, r)

@@ -9,7 +9,7 @@ use Rattle.std.proofs.lemmas.Nat.{one_shl}
 use Rattle.std.proofs.lemmas.Bool.{not-false, not-true, cases_lt}
 use Rattle.supply.specs.Stocks.{is_out, marked, counted, fresh, Given, Returned}
 use Rattle.supply.specs.Words.{digits, spread, bit_stock}
-use Rattle.supply.specs.StockLaws.{out_within, counted_given, counted_returned, counted_fresh, all_marked, none_marked}
+use Rattle.supply.proofs.StockLaws.{out_within, counted_given, counted_returned, counted_fresh, all_marked, none_marked}
 use Rattle.supply.proofs.Digits.{length_spread, index_spread, set_spread, digits_turn, digit_at, turned_digit, trailing_lowest, digits_zero, spread_zero}
 
 -- the mark of n is the digit n % 64 of the word n / 64

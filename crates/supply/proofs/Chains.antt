@@ -8,7 +8,7 @@ use Rattle.std.proofs.lemmas.Bool.{eqb-true, ne_eqb}
 use Rattle.supply.specs.declared.links.Chain.{Chain}
 use Rattle.supply.specs.Stocks.{marked, counted, fresh, Given, Returned}
 use Rattle.supply.specs.Rows.{row_of, Below, Unused, Apart, Rising, link_marks, link_stock}
-use Rattle.supply.specs.StockLaws.{counted_given, counted_returned, counted_fresh, out_within, marked_given, marked_returned, all_false, none_marked}
+use Rattle.supply.proofs.StockLaws.{counted_given, counted_returned, counted_fresh, out_within, marked_given, marked_returned, all_false, none_marked}
 
 -- ---- the marks
 

@@ -1,3 +1,4 @@
+pub mod StockLaws
 pub mod Digits
 pub mod Bitmaps
 pub mod Chains

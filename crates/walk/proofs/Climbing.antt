@@ -1,4 +1,5 @@
 -- The way up from the edge of a leaf. Assumes nothing.
+use Rattle.std.proofs.lemmas.Option.{none-some}
 use Rattle.std.proofs.Common.{◌≡◌, ℕ, zero, suc, ◌+◌, ◌-◌, ◌<◌, ◌≤◌, List, [], ◌∷◌, ◌++◌, IsErrAnd, Some, None, Ok, Err, Option, Result, sym, refl, ap, ◌∙◌, subst, ap₂, arith}
 use Rattle.std.proofs.lemmas.Bool.Decides.{nat_tests}
 use Rattle.supply.specs.declared.faults.Fault.{Fault}
@@ -10,9 +11,6 @@ use Rattle.node.specs.declared.ends.Side.TheVariants.{First, Last}
 use Rattle.node.specs.Store.{head_in}
 use Rattle.walk.specs.declared.climb.Spot.{Spot}
 use Rattle.walk.specs.Climbs.{Breached, spot, up, up_from, ups, beside, Edged, Past, Rises, Finds}
-
-pub none_some : (i : ℕ) → ◌≡◌ {A = Option ℕ} None (Some i) → ⊥
-none_some i e = let z : ◌≡◌ {A = ℕ} 0 1 = cc in omega arith
 
 pub some_number : (i j : ℕ) → ◌≡◌ {A = Option ℕ} (Some i) (Some j) → i ≡ j
 some_number i j e = cc
@@ -35,11 +33,11 @@ module _ (s : Side) (H : List Head) where
   pub rises_here : (n : ℕ) (e : Handle) (w : Spot) (i : ℕ) → Rises s H n e w → At e (Some i) → (n ≡ 0) × (w.node ≡ e.node) × (w.idx ≡ i)
   unfolding Past up_from
   rises_here zero e w i r a = (refl, r.found.node_is, some_number w.idx i (sym r.found.entry_is ∙ a))
-  rises_here (suc n) e w i r a = absurd (none_some i (sym r.past.1 ∙ a))
+  rises_here (suc n) e w i r a = absurd (none-some i (sym r.past.1 ∙ a))
 
   pub rises_on : (n : ℕ) (e : Handle) (w : Spot) → Rises s H n e w → At e None → (0 < n) × Rises s H (n - 1) (up H e) w
   unfolding Past up_from
-  rises_on zero e w r a = absurd (none_some w.idx (sym a ∙ r.found.entry_is))
+  rises_on zero e w r a = absurd (none-some w.idx (sym a ∙ r.found.entry_is))
   rises_on (suc n) e w r a = (omega arith, subst (λ k. Rises s H k (up H e) w) (omega arith) (record { past = r.past.2; found = r.found }))
 
 -- ---- a search for an entry

@@ -1,4 +1,5 @@
 -- A whole tree as a walk. Assumes nothing.
+use Rattle.std.proofs.lemmas.Option.{none-some}
 use Rattle.std.proofs.Common.{◌≡◌, ℕ, zero, suc, ◌≤◌, List, [], ◌∷◌, ◌++◌, length, Some, None, Ok, Err, All, Option, Result, sym, refl, ap, ◌∙◌, subst, append-nil, arith, MatchResult}
 use Rattle.std.specs.Result.{result_or}
 use Rattle.std.proofs.lemmas.List.Elements.{All-head, All-tail}
@@ -36,9 +37,6 @@ module _ {X : Type 0} (P : Bounds → X → Type 0) where
   among_unbounded (k ∷ []) a = All-head (P unbounded) k [] a
   among_unbounded (k ∷ (k' ∷ ks)) a = (All-head (P unbounded) k (k' ∷ ks) a, among_unbounded (k' ∷ ks) (All-tail (P unbounded) k (k' ∷ ks) a))
 
-none_some : {X : Type 0} (x : X) → ◌≡◌ {A = Option X} None (Some x) → ⊥
-none_some x e = let z : ◌≡◌ {A = ℕ} 0 1 = cc in omega arith
-
 err_is : {X : Type 0} (y z : Fault) → ◌≡◌ {A = Result X Fault} (Err y) (Err z) → y ≡ z
 err_is y z e = cc
 
@@ -62,8 +60,8 @@ module _ {K V : Type 0} (T : Tables K V) where
       }
 
   some_unbounded : (s : Side) (e : Handle) → bound s unbounded ≡ Some e → ⊥
-  some_unbounded First e q = none_some e q
-  some_unbounded Last e q = none_some e q
+  some_unbounded First e q = none-some e q
+  some_unbounded Last e q = none-some e q
 
   within_least : (least h : ℕ) (t : Tree (K × V)) → Within least h t → least ≤ length (row t)
   unfolding Within
@@ -143,7 +141,7 @@ module _ {K V : Type 0} (T : Tables K V) where
     opens_by : (r : Result Walk Fault) → Breached r → ((S : Stock) (t : Tree (K × V)) → Ready T S n count t → Opened T S n.height t r) → Opens T o count r
     opens_by r g f = record {
       fault = g;
-      none = λ z. absurd (none_some n (sym z ∙ q));
+      none = λ z. absurd (none-some n (sym z ∙ q));
       some = λ m z S t w. subst (λ m. Ready T S m count t → Opened T S m.height t r) (some_is n m (sym q ∙ z)) (f S t) w;
     }
 

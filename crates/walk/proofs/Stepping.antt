@@ -1,4 +1,5 @@
 -- What steps hand out. Assumes nothing.
+use Rattle.std.proofs.lemmas.Option.{none-some}
 use Rattle.std.proofs.Common.{◌≡◌, ℕ, zero, suc, ◌+◌, ◌≤◌, ◌⊎◌, List, [], ◌∷◌, ◌++◌, map, reverse, length, replicate, Some, None, All, Option, sym, refl, ap, ◌∙◌, subst, ap₂, inl, inr, append_assoc, append-nil, arith}
 use lib.ListN.{length-map}
 use Rattle.std.proofs.lemmas.List.Elements.{All-nil, All-cons, All-head, All-tail, All-append}
@@ -6,7 +7,7 @@ use Rattle.std.proofs.lemmas.List.{nil_from_length, map-append, reverse-append, 
 use Rattle.node.specs.declared.ends.Side.{Side}
 use Rattle.node.specs.declared.ends.Side.TheVariants.{First, Last}
 use Rattle.node.specs.Shape.{Tree, number, row, kids, mk, weave, before, flat, total}
-use Rattle.node.proofs.Weaves.{trees_forest, weave_mid, weave_join, total_append}
+use Rattle.node.proofs.Weaves.{trees_forest, weave_mid, weave_join, total_append, flat_mk}
 use Rattle.walk.specs.Steps.{cons, last_of, front_of, uncons, of_row, of_kid, of_kids, step, Handed, handed, steps, stepped, Fanned}
 use Rattle.walk.specs.Laws.{TakenOff, StepTakes, StepEnds, StepsPart, Forward, Backward, StepsForward, StepsBackward}
 
@@ -99,10 +100,6 @@ module _ {E : Type 0} where
 -- ---- one step
 
 module _ {E : Type 0} where
-  flat_mk : (h m : ℕ) (es : List E) (ks : List (Tree E)) → flat (suc h) (mk m es ks) ≡ weave (map (flat h) ks) es
-  unfolding flat
-  flat_mk h m es ks = ap (λ r. weave (map (flat h) r) es) (trees_forest ks)
-
   flat_cons : (s : Side) (h : ℕ) (t : Tree E) (k : Tree E) (ks : List (Tree E)) → kids t ≡ cons s k ks → flat (suc h) t ≡ weave (cons s (flat h k) (map (flat h) ks)) (row t)
   unfolding flat
   flat_cons s h t k ks e = ap (λ r. weave (map (flat h) r) (row t)) e ∙ ap (λ r. weave r (row t)) (map_cons (flat h) s k ks)
@@ -122,9 +119,6 @@ module _ {E : Type 0} where
   some_pair : (e e' : E) (t t' : Tree E) → ◌≡◌ {A = Option (E × Tree E)} (Some (e, t)) (Some (e', t')) → (e ≡ e') × (t ≡ t')
   some_pair e e' t t' q = let p = some_is (e, t) (e', t') q in (ap (λ p. p.0) p, ap (λ p. p.1) p)
 
-  none_some : (e : E) (t : Tree E) → ◌≡◌ {A = Option (E × Tree E)} None (Some (e, t)) → ⊥
-  none_some e t q = let z : ◌≡◌ {A = ℕ} 0 1 = cc in omega arith
-
   pub step_under : (s : Side) (h : ℕ) (t : Tree E) (k : Tree E) (ks : List (Tree E)) → kids t ≡ cons s k ks → step s (suc h) t ≡ of_kid s (number t) (row t) ks (step s h k)
   unfolding step
   step_under s h t k ks e = ap (of_kids s (step s h) (number t) (row t)) (ap (uncons s) e ∙ uncons_cons s k ks)
@@ -134,16 +128,16 @@ module _ {E : Type 0} where
   row_some s m ks es e t' q = go (uncons s es) refl q
     where
       go : (o : Option (E × List E)) → uncons s es ≡ o → of_row m ks o ≡ Some (e, t') → (fs : List E) × (es ≡ cons s e fs) × (t' ≡ mk m fs ks)
-      go None p q = absurd (none_some e t' q)
+      go None p q = absurd (none-some (e, t') q)
       go (Some a) p q =
           let r = some_pair a.0 e (mk m a.1 ks) t' q in
           (a.1, uncons_is s es a.0 a.1 p ∙ ap (λ x. cons s x a.1) r.0, sym r.1)
 
   pub row_none : (s : Side) (m : ℕ) (ks : List (Tree E)) (es : List E) → of_row m ks (uncons s es) ≡ None → es ≡ []
   row_none First m ks [] q = refl
-  row_none First m ks (e ∷ es) q = absurd (none_some e (mk m es ks) (sym q))
+  row_none First m ks (e ∷ es) q = absurd (none-some (e, mk m es ks) (sym q))
   row_none Last m ks [] q = refl
-  row_none Last m ks (e ∷ es) q = absurd (none_some (last_of e es) (mk m (front_of e es) ks) (sym q))
+  row_none Last m ks (e ∷ es) q = absurd (none-some (last_of e es, mk m (front_of e es) ks) (sym q))
 
   flat_leaf : (t : Tree E) → flat zero t ≡ row t
   unfolding flat
@@ -172,7 +166,7 @@ module _ {E : Type 0} where
 
   none_under : (s : Side) (t : Tree E) (ks : List (Tree E)) (o : Option (E × Tree E)) → of_kid s (number t) (row t) ks o ≡ None → (o ≡ None) × (row t ≡ [])
   none_under s t ks None q = (refl, row_none s (number t) ks (row t) q)
-  none_under s t ks (Some p) q = absurd (none_some p.0 (mk (number t) (row t) (cons s p.1 ks)) (sym q))
+  none_under s t ks (Some p) q = absurd (none-some (p.0, mk (number t) (row t) (cons s p.1 ks)) (sym q))
 
   pub step_none : (s : Side) (h : ℕ) (t k : Tree E) (ks : List (Tree E)) → kids t ≡ cons s k ks → step s (suc h) t ≡ None → (step s h k ≡ None) × (row t ≡ [])
   step_none s h t k ks p q = none_under s t ks (step s h k) (sym (step_under s h t k ks p) ∙ q)

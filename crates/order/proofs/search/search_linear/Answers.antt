@@ -1,7 +1,7 @@
 use Rattle.std.proofs.Common.{true, false, length, rules}
 use borrow.Author.Rules.{get_or_read}
 use Rattle.order.specs.Found.{Stopped}
-use Rattle.order.specs.Among.{stopped_first, stopped_found, stopped_made, stopped_parted, stopped_strict}
+use Rattle.order.proofs.Among.{stopped_first, stopped_found, stopped_made, stopped_parted, stopped_strict}
 use Rattle.order.proofs.search.search_linear.Goals as goal
 
 pub returns-in-Equal : goal.returns-in-Equal

@@ -1,6 +1,6 @@
 use Rattle.std.proofs.Common.{◌≤◌, ap, ◌∙◌, arith}
 use Rattle.supply.specs.Stocks.{fresh}
-use Rattle.supply.specs.StockLaws.{kept_most}
+use Rattle.supply.proofs.StockLaws.{kept_most}
 use Rattle.supply.proofs.Bitmaps.{new_clear, new_fresh}
 use Rattle.supply.proofs.bits.Bitmap.new.Goals as goal
 

@@ -1,7 +1,7 @@
 use Rattle.std.proofs.Common.{◌≡◌, ◌≤◌, length, ap, ◌∙◌, arith}
 use Rattle.std.specs.List.{range_with_len}
 use Rattle.supply.specs.Stocks.{fresh}
-use Rattle.supply.specs.StockLaws.{kept_most}
+use Rattle.supply.proofs.StockLaws.{kept_most}
 use Rattle.supply.proofs.Chains.{new_chained, new_stock, new_row}
 use Rattle.supply.proofs.links.Chain.new.Goals as goal
 
