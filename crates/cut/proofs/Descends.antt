@@ -1,4 +1,5 @@
 -- One level of the descent of a cut, and what the recursion did below it. Assumes nothing.
+use Rattle.map.specs.Lookup.{keys_at}
 use Rattle.rules.proofs.Searches.{first_map, made_map, first_is}
 use Rattle.std.proofs.Common.{◌≡◌, ℕ, zero, suc, ◌+◌, ◌-◌, ◌*◌, ◌<◌, ◌≤◌, Bool, List, [], ◌∷◌, ◌++◌, map, length, get_or, take, drop, Ok, Err, All, Result, Ordering, sym, refl, ap, ◌∙◌, subst, ap₂, ⊎_elim, append_assoc, arith, length-append, length-drop, take-append-drop, length-take}
 use lib.ListN.{length-map}
@@ -13,7 +14,7 @@ use Rattle.node.specs.Cells.{span}
 use Rattle.node.specs.Links.{edge}
 use Rattle.node.specs.Shape.{Tree, node, none, number, row, kids, kid, mk, total}
 use Rattle.node.specs.Sorted.{index}
-use Rattle.node.specs.Store.{Tables, Sized, Node, Linked, Holds, SameLink, Changed, head_at, numbers, times, first, keys_at}
+use Rattle.node.specs.Store.{Tables, Sized, Node, Linked, Holds, SameLink, Changed, head_at, numbers, times, first}
 use Rattle.node.specs.Laws.{occurs, below, same}
 use Rattle.node.specs.Balance.{mark, Beside}
 use Rattle.node.specs.Operations.{MovesSuffix}

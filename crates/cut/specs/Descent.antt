@@ -3,6 +3,7 @@
 --   beneath place e      the key of e is below the query
 --   Parted               the tables hold what stays of t, and the spine filled with the rest; nothing else that is out has changed
 --   Cuts                 so it is where the tables hold t and the spine, with numbers that are out, each once; with the comparisons made
+use Rattle.map.specs.Lookup.{keys_at}
 use Rattle.std.specs.Prelude.{◌≡◌, ℕ, ◌+◌, ◌≤◌, Bool, Ok, Result}
 use Rattle.std.specs.declared.cmp.Ordering.{Ordering}
 use Rattle.std.specs.Ordering.{is_gt}
@@ -11,7 +12,7 @@ use Rattle.supply.specs.Stocks.{Stock}
 use Rattle.order.specs.Found.{first_not_below, comparisons}
 use Rattle.node.specs.Operations.{Lies}
 use Rattle.node.specs.Shape.{Tree, number}
-use Rattle.node.specs.Store.{Tables, Sized, Holds, SameLink, head_at, first, keys_at}
+use Rattle.node.specs.Store.{Tables, Sized, Holds, SameLink, head_at, first}
 use Rattle.node.specs.Laws.{occurs}
 use Rattle.node.specs.Balance.{mark, Beside}
 use Rattle.parts.specs.Rules.{cut_left, cut_right, spine, cuts}

@@ -5,9 +5,9 @@ use Rattle.std.specs.Ordering.{is_gt}
 use Rattle.order.specs.declared.search.SearchResult.TheVariants.{Found, GoDown}
 use Rattle.order.specs.Found.{first_not_below, found_at}
 use Rattle.node.specs.Shape.{Tree, number, row, kid}
-use Rattle.node.specs.Store.{Tables, Holds, head_at, first, second, keys_at}
+use Rattle.node.specs.Store.{Tables, Holds, head_at, first, second}
 use Rattle.node.specs.Sorted.{index}
-use Rattle.map.specs.Lookup.{SearchedIn, PassedIn}
+use Rattle.map.specs.Lookup.{SearchedIn, PassedIn, keys_at}
 use Rattle.map.proofs.Seeking.{found_is, index_is, was_found, was_passed, child_number}
 use Rattle.supply.specs.declared.faults.Fault.{Fault}
 use Rattle.supply.specs.Stocks.{Stock}

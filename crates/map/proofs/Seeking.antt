@@ -8,12 +8,12 @@ use Rattle.order.specs.declared.search.SearchResult.TheVariants.{Found, GoDown}
 use Rattle.order.specs.Found.{first_not_below, found_at, comparisons}
 use Rattle.node.specs.Cells.{span, Run}
 use Rattle.node.specs.Shape.{Tree, node, none, number, row, kids, kid}
-use Rattle.node.specs.Store.{Tables, Sized, Node, Holds, head_at, first, second, numbers, keys_at}
+use Rattle.node.specs.Store.{Tables, Sized, Node, Holds, head_at, first, second, numbers}
 use Rattle.node.specs.Operations.{Strange}
 use Rattle.node.proofs.Tabled.{not_strange}
 use Rattle.node.proofs.Runs.{run_at, edge_is}
 use Rattle.node.proofs.Frames.{height_suc, holds_node, holds_fan, holds_kid}
-use Rattle.map.specs.Lookup.{nth, seek, looks, value_of, FoundIn, PassedIn}
+use Rattle.map.specs.Lookup.{nth, seek, looks, value_of, FoundIn, PassedIn, keys_at}
 
 -- what a result says of the flag and the index
 pub was_found : (b : Bool) (i j : ℕ) → cond b (Found i) (GoDown i) ≡ Found j → (b ≡ true) × (i ≡ j)

@@ -12,12 +12,13 @@ use Rattle.supply.specs.declared.faults.Fault.{Fault}
 use Rattle.order.specs.declared.search.SearchResult.{SearchResult}
 use Rattle.order.specs.declared.search.SearchResult.TheVariants.{Found, GoDown}
 use Rattle.order.specs.Found.{first_not_below, found_at, comparisons, searched, index_of, is_found}
+use Rattle.node.specs.Cells.{span}
 use Rattle.node.specs.Operations.{Lies}
 use Rattle.std.specs.Ordering.{is_lt}
 use Rattle.order.specs.Laws.{Ordered, Placed, Pointed}
 use Rattle.node.specs.Sorted.{Sorted}
 use Rattle.node.specs.Shape.{Tree, number, row, kid, flat, Formed}
-use Rattle.node.specs.Store.{Tables, Sized, Holds, head_at, first, second, keys_at}
+use Rattle.node.specs.Store.{Tables, Sized, Holds, head_at, first, second}
 use Rattle.map.specs.declared.search.Visit.{Visit}
 
 abbrev pub nth : {E : Type 0} → List E → ℕ → Option E
@@ -37,6 +38,10 @@ looks place (suc h) t = comparisons place (row t) + cond (found_at place (row t)
 abbrev pub value_of : {K V : Type 0} → Option (K × V) → Option V
 value_of None = None
 value_of (Some e) = Some (second e)
+
+-- the keys of node m
+abbrev pub keys_at : {K V : Type 0} → Tables K V → ℕ → List K
+keys_at T m = span T.keys (11 * m) (head_at T m).len
 
 -- the search in node m came to this result, with so many comparisons
 pub record SearchedIn {K V : Type 0} (place : K → Ordering) (T : Tables K V) (m : ℕ) (r : SearchResult) (made : ℕ) : Type 0 where

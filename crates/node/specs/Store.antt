@@ -29,10 +29,6 @@ head_in hs m = slice_index_or hs m no_head
 abbrev pub head_at : {K V : Type 0} → Tables K V → ℕ → Head
 head_at T m = head_in T.heads m
 
--- the keys of node m
-abbrev pub keys_at : {K V : Type 0} → Tables K V → ℕ → List K
-keys_at T m = span T.keys (11 * m) (head_at T m).len
-
 -- the key and the value of an entry
 abbrev pub first : {K V : Type 0} → (K × V) → K
 first e = e.0
