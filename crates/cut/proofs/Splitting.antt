@@ -1,6 +1,6 @@
 -- The lengths of both parts of a cut. Assumes nothing.
 use Rattle.node.specs.Kinds.{root_of}
-use Rattle.std.proofs.Common.{◌≡◌, ℕ, ◌≤◌, length, Some, Ok, Err, Result, Ordering, sym, ap, ◌∙◌, subst, ap₂, arith, length-append}
+use Rattle.std.proofs.Common.{◌≡◌, ℕ, ◌≤◌, length, Some, Ok, Result, Ordering, sym, ap, ◌∙◌, subst, ap₂, arith, length-append}
 use Rattle.supply.specs.declared.faults.Fault.{Fault}
 use Rattle.supply.specs.Stocks.{Stock}
 use Rattle.node.specs.declared.ends.Side.{Side}
@@ -20,9 +20,6 @@ use Rattle.repair.proofs.Repairing.{top_low}
 use Rattle.cut.specs.declared.split.Cut.{Cut}
 use Rattle.cut.specs.Descent.{beneath}
 use Rattle.cut.specs.Split.{CountsBoth, left_of, right_of, made_of, HalvesAt, Split}
-
-pub err_same : {T E : Type 0} (x y : E) → ◌≡◌ {A = Result T E} (Err x) (Err y) → x ≡ y
-err_same x y q = cc
 
 pub split_low : {K V : Type 0} (T : Tables K V) (S : Stock) (h : ℕ) (t : Tree (K × V)) → Owns T S h t → Formed h t → h ≤ 5
 split_low T S h t o f = held_low T h t o.sized o.holds f (λ x. omega (arith, o.owned x, mark_most S x))

@@ -12,7 +12,7 @@ use Rattle.node.specs.Laws.{occurs}
 use Rattle.node.specs.Rules.{Grown, whole, parted}
 use Rattle.node.specs.Balance.{Owns, Rooted}
 use Rattle.node.proofs.Balances.{balanced_both, beside_both, beside_sized}
-use Rattle.node.proofs.Tabled.{err_not_ok, ok_same}
+use Rattle.node.proofs.Tabled.{err_not_ok, ok_same, err_same}
 use Rattle.rules.specs.Rules.{grow, run, planted, need}
 use Rattle.insertion.specs.declared.descent.InsertResult.{InsertResult}
 use Rattle.insertion.specs.declared.descent.InsertResult.TheVariants.{Replaced, Fit, Split}
@@ -24,9 +24,6 @@ use Rattle.insertion.proofs.Descended.{replaced_not_split, fit_not_split, split_
 
 replaced_not_fit : {K V : Type 0} (x : V) → ◌≡◌ {A = InsertResult K V} (Replaced x) Fit → ⊥
 replaced_not_fit x e = let z : ◌≡◌ {A = ℕ} 0 1 = cc in omega arith
-
-err_same : {X Y : Type 0} (x y : Y) → ◌≡◌ {A = Result X Y} (Err x) (Err y) → x ≡ y
-err_same x y e = cc
 
 replaced_same : {K V : Type 0} (x y : V) → ◌≡◌ {A = InsertResult K V} (Replaced x) (Replaced y) → x ≡ y
 replaced_same x y e = cc

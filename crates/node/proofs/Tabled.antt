@@ -145,6 +145,9 @@ err_not_ok y x e = let z : ◌≡◌ {A = ℕ} 0 1 = cc in omega arith
 pub ok_same : {T E : Type 0} (x y : T) → ◌≡◌ {A = Result T E} (Ok x) (Ok y) → x ≡ y
 ok_same x y e = cc
 
+pub err_same : {T E : Type 0} (x y : E) → ◌≡◌ {A = Result T E} (Err x) (Err y) → x ≡ y
+err_same x y e = cc
+
 pub fan_at : (h h' n k : ℕ) → h ≡ h' → Fan h n k → Fan h' n k
 fan_at h h' n k e f = subst (λ x. Fan x n k) e f
 

@@ -1,9 +1,9 @@
 use Rattle.std.proofs.Common.{Err, sym, refl, ap, ◌∙◌, arith}
 use Rattle.std.proofs.lemmas.Result.{err_from_is_err_and}
 use Rattle.node.specs.Store.{tables}
-use Rattle.node.proofs.Tabled.{err_not_ok}
+use Rattle.node.proofs.Tabled.{err_not_ok, err_same}
 use Rattle.cut.specs.Split.{Halves, SplitsOff}
-use Rattle.cut.proofs.Splitting.{split_low, counts_to, split_at, err_same}
+use Rattle.cut.proofs.Splitting.{split_low, counts_to, split_at}
 use Rattle.cut.proofs.split.split_off.Goals as goal
 
 pub returns-then-count-eq0 : goal.returns-then-count-eq0
