@@ -2,27 +2,22 @@
 
 ghost use Rattle.std.specs.Prelude.{◌≡◌, ◌+◌, ◌-◌, ◌*◌, ◌<◌, ◌≤◌, ◌∷◌, length, MatchResult};
 ghost use Rattle.node.specs.Cells.{span, Put};
-ghost use Rattle.node.specs.Store.{tables, Sized, head_at};
+ghost use Rattle.node.specs.Store.{Sized, head_at};
 ghost use Rattle.node.specs.Operations.{Lies, InsertsFit, InsertsEdge};
 
 use crate::cells::slice_insert;
 use crate::edges::with_edge;
 use crate::head::{CAPACITY, Head};
 use crate::links::correct_childrens_parent_links;
-use crate::nodes::{Internal, Leaf, len_in};
+use crate::nodes::{Internal, Leaf};
+use crate::tables::{Tables, TablesMut};
 use supply::Fault;
 
 /// How many entries `node` has, where it has room for one at `idx`.
-fn room_in<K, V>(
-    heads: &[Head],
-    keys: &[K],
-    values: &[V],
-    node: u16,
-    idx: usize,
-) -> Result<usize, Fault>
-    ensures { MatchResult result (λ n. Lies (tables heads.now keys.now values.now) node n × (n < 11) × (idx ≤ n)) (λ _. (Sized (tables heads.now keys.now values.now) → node < length heads.now → (head_at (tables heads.now keys.now values.now) node).len < 11 → idx ≤ (head_at (tables heads.now keys.now values.now) node).len → ⊥)) }
+fn room_in<K, V>(tables: &Tables<'_, K, V>, node: u16, idx: usize) -> Result<usize, Fault>
+    ensures { MatchResult result (λ n. Lies tables.now node n × (n < 11) × (idx ≤ n)) (λ _. (Sized tables.now → node < length tables.now.heads → (head_at tables.now node).len < 11 → idx ≤ (head_at tables.now node).len → ⊥)) }
 {
-    let len = len_in(heads, keys, values, node)?;
+    let len = tables.len_in(node)?;
     if len >= CAPACITY || idx > len {
         return Err(Fault::Breach);
     }
@@ -33,20 +28,18 @@ impl Leaf {
     /// Puts an entry at `idx` into a node that has room; its edges stay.
     pub fn insert_fit<K: Copy, V: Copy>(
         self,
-        heads: &mut [Head],
-        keys: &mut [K],
-        values: &mut [V],
+        tables: &mut TablesMut<'_, K, V>,
         idx: usize,
         key: K,
         val: V,
     ) -> Result<(), Fault>
-        ensures { InsertsFit (tables heads.old keys.old values.old) (tables heads.new keys.new values.new) self.node idx (key, val) result }
+        ensures { InsertsFit tables.old tables.new self.node idx (key, val) result }
     {
-        let len = room_in(heads, keys, values, self.node, idx)?;
+        let len = room_in(&tables.as_tables(), self.node, idx)?;
         let m = self.node as usize;
-        slice_insert(keys, CAPACITY * m + idx, len - idx, key);
-        slice_insert(values, CAPACITY * m + idx, len - idx, val);
-        heads[m].len = (len + 1) as u16;
+        slice_insert(tables.keys, CAPACITY * m + idx, len - idx, key);
+        slice_insert(tables.values, CAPACITY * m + idx, len - idx, val);
+        tables.heads[m].len = (len + 1) as u16;
         Ok(())
     }
 }
@@ -55,26 +48,24 @@ impl Internal {
     /// Puts an entry at `idx` into a node that has room, and an edge behind it.
     pub fn insert_fit<K: Copy, V: Copy>(
         self,
-        heads: &mut [Head],
-        keys: &mut [K],
-        values: &mut [V],
+        tables: &mut TablesMut<'_, K, V>,
         idx: usize,
         key: K,
         val: V,
         edge: u16,
     ) -> Result<(), Fault>
-        ensures { InsertsEdge (tables heads.old keys.old values.old) (tables heads.new keys.new values.new) self.node idx (key, val) edge result }
+        ensures { InsertsEdge tables.old tables.new self.node idx (key, val) edge result }
     {
-        let len = room_in(heads, keys, values, self.node, idx)?;
+        let len = room_in(&tables.as_tables(), self.node, idx)?;
         let m = self.node as usize;
-        slice_insert(keys, CAPACITY * m + idx, len - idx, key);
-        slice_insert(values, CAPACITY * m + idx, len - idx, val);
-        let edges = with_edge(&heads[m].edges, idx + 1, len - idx, edge);
-        heads[m] = Head {
+        slice_insert(tables.keys, CAPACITY * m + idx, len - idx, key);
+        slice_insert(tables.values, CAPACITY * m + idx, len - idx, val);
+        let edges = with_edge(&tables.heads[m].edges, idx + 1, len - idx, edge);
+        tables.heads[m] = Head {
             len: (len + 1) as u16,
             edges,
-            ..heads[m]
+            ..tables.heads[m]
         };
-        correct_childrens_parent_links(heads, self.node, idx + 1, len + 2)
+        correct_childrens_parent_links(tables.heads, self.node, idx + 1, len + 2)
     }
 }

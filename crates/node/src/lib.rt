@@ -14,3 +14,4 @@ pub mod links;
 pub mod nodes;
 pub mod rows;
 pub mod split;
+pub mod tables;

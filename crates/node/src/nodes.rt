@@ -1,15 +1,8 @@
 //! Leaves and inner nodes.
 
-ghost use Rattle.std.specs.Prelude.{◌≡◌, ◌<◌, ◌≤◌, length, MatchResult};
-ghost use Rattle.node.specs.Store.{tables};
-ghost use Rattle.node.specs.Operations.{Lies, Strange, Fan};
+ghost use Rattle.std.specs.Prelude.{◌≡◌, ◌≤◌};
+ghost use Rattle.node.specs.Operations.{Fan};
 ghost use Rattle.node.specs.Kinds.{forced};
-
-use crate::head::{CAPACITY, Head};
-use supply::Fault;
-
-/// The most nodes in the tables.
-pub const MOST: usize = 4096;
 
 /// A node with its height above the leaves.
 #[derive(Clone, Copy)]
@@ -52,9 +45,7 @@ impl NodeRef {
             })
         }
     }
-}
 
-impl NodeRef {
     /// How many edges the node has where it has `len` entries.
     pub(crate) fn edge_count(self, len: usize) -> usize
         requires { len ≤ 11 }
@@ -65,22 +56,4 @@ impl NodeRef {
             ForceResult::Internal(_) => len + 1,
         }
     }
-}
-
-/// How many entries `node` has, where it lies in tables that fit together.
-pub fn len_in<K, V>(heads: &[Head], keys: &[K], values: &[V], node: u16) -> Result<usize, Fault>
-    ensures { MatchResult result (λ n. Lies (tables heads.now keys.now values.now) node n) (λ _. Strange (tables heads.now keys.now values.now) node) }
-{
-    let count = heads.len();
-    if count > MOST || keys.len() != CAPACITY * count || values.len() != CAPACITY * count {
-        return Err(Fault::Breach);
-    }
-    if node as usize >= count {
-        return Err(Fault::Breach);
-    }
-    let len = heads[node as usize].len as usize;
-    if len > CAPACITY {
-        return Err(Fault::Breach);
-    }
-    Ok(len)
 }

@@ -1,8 +1,7 @@
-use Rattle.std.proofs.Common.{Ok, refl, ap}
+use Rattle.std.proofs.Common.{◌+◌, Ok, refl, ap}
 use Rattle.std.proofs.lemmas.Result.{IfOk-from_err}
-use Rattle.node.specs.Store.{tables}
 use Rattle.node.specs.Neighbours.{PairedOf}
-use Rattle.node.proofs.Neighbouring.{parent_lies, index_within, left_lies, right_lies, all_differ, pair_is}
+use Rattle.node.proofs.Neighbouring.{parent_lies, index_within, left_lies, right_lies, all_differ, pair_is, same_edge}
 use Rattle.node.proofs.nodes.Internal.pair.Goals as goal
 
 pub returns-in_err-len : goal.returns-in_err-len
@@ -23,14 +22,14 @@ pub returns-in_err-left_len : goal.returns-in_err-left_len
 unfolding PairedOf
 returns-in_err-left_len g c = record {
   lies = IfOk-from_err c.from_residual-in_err-left_len.result _ c.from_residual-in_err-left_len.ensures.0;
-  held = λ l r us e ws es fs xs bs ks ls s q. absurd (left_lies _ _ _ l r us e ws es fs xs bs ks ls q _ c.edge_at-left.ensures.value s c.in_err-left_len.ensures);
+  held = λ l r us e ws es fs xs bs ks ls s q. absurd (left_lies _ _ _ l r us e ws es fs xs bs ks ls q _ (same_edge _ c.args.idx _ c.tables.view_is c.edge_at-left.ensures.value) s c.in_err-left_len.ensures);
 }
 
 pub returns-in_err-right_len : goal.returns-in_err-right_len
 unfolding PairedOf
 returns-in_err-right_len g c = record {
   lies = IfOk-from_err c.from_residual-in_err-right_len.result _ c.from_residual-in_err-right_len.ensures.0;
-  held = λ l r us e ws es fs xs bs ks ls s q. absurd (right_lies _ _ _ l r us e ws es fs xs bs ks ls q _ c.edge_at-right.ensures.value s c.in_err-right_len.ensures);
+  held = λ l r us e ws es fs xs bs ks ls s q. absurd (right_lies _ _ _ l r us e ws es fs xs bs ks ls q _ (same_edge _ (c.args.idx + 1) _ c.tables.view_is c.edge_at-right.ensures.value) s c.in_err-right_len.ensures);
 }
 
 pub returns-then-left-self : goal.returns-then-left-self
@@ -38,7 +37,7 @@ unfolding PairedOf
 returns-then-left-self g c = record {
   lies = tt;
   held = λ l r us e ws es fs xs bs ks ls s q.
-      absurd (all_differ _ _ _ l r us e ws es fs xs bs ks ls q _ _ c.edge_at-left.ensures.value c.edge_at-right.ensures.value c.then-left-self.either);
+      absurd (all_differ _ _ _ l r us e ws es fs xs bs ks ls q _ _ (same_edge _ c.args.idx _ c.tables.view_is c.edge_at-left.ensures.value) (same_edge _ (c.args.idx + 1) _ c.tables.view_is c.edge_at-right.ensures.value) c.then-left-self.either);
 }
 
 pub returns : goal.returns
@@ -60,5 +59,5 @@ returns g c =
         differ = c.if-left-right.false;
       };
       held = λ l r us e ws es fs xs bs ks ls s q.
-          ap Ok (pair_is (tables c.args.heads.now c.args.keys.now c.args.values.now) _ _ l r us e ws es fs xs bs ks ls q _ _ _ _ _ a.len_is c.edge_at-left.ensures.value c.edge_at-right.ensures.value b.len_is d.len_is);
+          ap Ok (pair_is c.args.tables.now _ _ l r us e ws es fs xs bs ks ls q _ _ _ _ _ a.len_is (same_edge _ c.args.idx _ c.tables.view_is c.edge_at-left.ensures.value) (same_edge _ (c.args.idx + 1) _ c.tables.view_is c.edge_at-right.ensures.value) b.len_is d.len_is);
     }

@@ -1,0 +1,79 @@
+//! The caller's three tables, which go together in every call.
+
+use crate::head::{CAPACITY, Head};
+use std::marker::Model;
+use supply::Fault;
+
+/// The most nodes in the tables.
+pub const MOST: usize = 4096;
+
+/// The tables, to read.
+#[derive(Drop)]
+pub struct Tables<'a, K, V> {
+    pub heads: &'a [Head],
+    pub keys: &'a [K],
+    pub values: &'a [V],
+}
+
+impl<'a, K, V> Model for Tables<'a, K, V> {
+    ghost use Rattle.node.specs.Store.{Tables as Held, tables};
+
+    ghost Value = { Held K V };
+
+    ghost view = { λ t. tables t.heads.now t.keys.now t.values.now };
+}
+
+impl<K, V> Tables<'_, K, V> {
+    ghost use Rattle.std.specs.Prelude.{◌≡◌, MatchResult};
+    ghost use Rattle.node.specs.Operations.{Lies, Strange};
+
+    /// How many entries `node` has, where it lies in tables that fit together.
+    pub fn len_in(&self, node: u16) -> Result<usize, Fault>
+        ensures { MatchResult result (λ n. Lies self.now node n) (λ _. Strange self.now node) }
+    {
+        let count = self.heads.len();
+        let cells = CAPACITY * count;
+        if count > MOST || self.keys.len() != cells || self.values.len() != cells {
+            return Err(Fault::Breach);
+        }
+        if node as usize >= count {
+            return Err(Fault::Breach);
+        }
+        let len = self.heads[node as usize].len as usize;
+        if len > CAPACITY {
+            return Err(Fault::Breach);
+        }
+        Ok(len)
+    }
+}
+
+/// The tables, to change.
+#[derive(Drop)]
+pub struct TablesMut<'a, K, V> {
+    pub heads: &'a mut [Head],
+    pub keys: &'a mut [K],
+    pub values: &'a mut [V],
+}
+
+impl<'a, K, V> Model for TablesMut<'a, K, V> {
+    ghost use Rattle.node.specs.Store.{Tables as Held, tables};
+
+    ghost Value = { Held K V };
+
+    ghost view = { λ t. tables t.heads.now t.keys.now t.values.now };
+}
+
+impl<K, V> TablesMut<'_, K, V> {
+    ghost use Rattle.std.specs.Prelude.{◌≡◌};
+
+    /// The same tables, to read.
+    pub fn as_tables(&self) -> Tables<'_, K, V>
+        ensures { result ≡ self.now }
+    {
+        Tables {
+            heads: self.heads,
+            keys: self.keys,
+            values: self.values,
+        }
+    }
+}
