@@ -17,22 +17,6 @@ use Rattle.node.proofs.Frames.{node_kept, linked_kept, linked_parts}
 use Rattle.node.specs.Operations.{Fan, Children, InsertsFit, InsertsEdge, Splits}
 use Rattle.map.specs.Inserts.{Edges, InsertsIn}
 
--- what a kind says of the height and the number
-pub forced_leaf : (n : NodeRef) (x : Leaf) → kind.Leaf x ≡ forced n → (n.height ≡ 0) × (x.node ≡ n.node)
-forced_leaf n x e = go (eqb n.height 0) refl e
-  where
-    go : (b : Bool) → eqb n.height 0 ≡ b → kind.Leaf x ≡ cond b (kind.Leaf (record { node = n.node })) (kind.Internal (record { node = n.node; height = n.height })) → (n.height ≡ 0) × (x.node ≡ n.node)
-    go true p q = (eqb-true n.height 0 p, cc)
-    go false p q = let z : ◌≡◌ {A = ℕ} 0 1 = cc in absurd (omega arith)
-
-pub forced_inner : (n : NodeRef) (x : Internal) → kind.Internal x ≡ forced n → (0 < n.height) × (x.node ≡ n.node) × (x.height ≡ n.height)
-forced_inner n x e = go (eqb n.height 0) refl e
-  where
-    go : (b : Bool) → eqb n.height 0 ≡ b → kind.Internal x ≡ cond b (kind.Leaf (record { node = n.node })) (kind.Internal (record { node = n.node; height = n.height }))
-        → (0 < n.height) × (x.node ≡ n.node) × (x.height ≡ n.height)
-    go true p q = let z : ◌≡◌ {A = ℕ} 0 1 = cc in absurd (omega arith)
-    go false p q = (omega (arith, eqb-false n.height 0 p), cc, cc)
-
 module _ {K V : Type 0} (T T' : Tables K V) (h m i : ℕ) (e : K × V) (c : ℕ) (r : Result (Unit {0}) Fault) where
   pub in_leaf : (x : ℕ) → x ≡ m → h ≡ 0 → InsertsFit T T' x i e r → InsertsIn T T' h m i e c r
   unfolding InsertsFit InsertsIn

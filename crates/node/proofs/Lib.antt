@@ -16,3 +16,4 @@ pub mod Numbers
 pub mod Recounts
 pub mod Descents
 pub mod Sorting
+pub mod Forced

@@ -13,7 +13,7 @@ use supply::Fault;
 pub const MAX_HEIGHT: u16 = 5;
 
 /// How many entries `node` has, where it lies in the table.
-pub(crate) fn len_at(heads: &[Head], node: u16) -> Result<usize, Fault>
+pub fn len_at(heads: &[Head], node: u16) -> Result<usize, Fault>
     ensures { MatchResult result (λ n. Stands heads.now node × (n ≡ (head_in heads.now node).len)) (λ _. (Stands heads.now node → ⊥)) }
 {
     if node as usize >= heads.len() {

@@ -5,27 +5,27 @@ ghost use Rattle.node.specs.Operations.{Fan};
 ghost use Rattle.node.specs.Kinds.{forced};
 
 /// A node with its height above the leaves.
-#[derive(Clone, Copy)]
+#[derive(Clone, Copy, PartialEq, Eq, Debug)]
 pub struct NodeRef {
     pub node: u16,
     pub height: u16,
 }
 
 /// A node at the lowest level.
-#[derive(Clone, Copy)]
+#[derive(Clone, Copy, PartialEq, Eq, Debug)]
 pub struct Leaf {
     pub node: u16,
 }
 
 /// A node above the leaves.
-#[derive(Clone, Copy)]
+#[derive(Clone, Copy, PartialEq, Eq, Debug)]
 pub struct Internal {
     pub node: u16,
     pub height: u16,
 }
 
 /// A node by its kind.
-#[derive(Clone, Copy)]
+#[derive(Clone, Copy, PartialEq, Eq, Debug)]
 pub enum ForceResult {
     Leaf(Leaf),
     Internal(Internal),

@@ -1,4 +1,5 @@
-use Rattle.map.proofs.Inserting.{forced_leaf, forced_inner, in_leaf, in_inner}
+use Rattle.node.proofs.Forced.{forced_leaf, forced_inner}
+use Rattle.map.proofs.Inserting.{in_leaf, in_inner}
 use Rattle.map.proofs.insert.insert_fit.Goals as goal
 
 pub returns-in-Leaf : goal.returns-in-Leaf
