@@ -1,12 +1,11 @@
 -- The entries under a node, counted child by child. Assumes nothing.
-use Rattle.std.proofs.Common.{◌≡◌, ℕ, zero, suc, ◌+◌, ◌-◌, ◌*◌, ◌<◌, ◌≤◌, List, [], ◌∷◌, map, length, take, All, sym, refl, ap, ◌∙◌, subst, mul-le-mul_right, arith, length-take}
+use Rattle.std.proofs.Common.{◌≡◌, ℕ, zero, suc, ◌+◌, ◌-◌, ◌*◌, ◌<◌, ◌≤◌, List, [], ◌∷◌, map, length, take, get_or, All, sym, refl, ap, ◌∙◌, subst, mul-le-mul_right, arith, length-take}
 use lib.ListN.{length-map}
 use Rattle.std.proofs.lemmas.List.Elements.{All-get_or, All-push, All-weaker, All-map, All-nil}
-use Rattle.std.proofs.lemmas.List.{take_more, get_or-take}
+use Rattle.std.proofs.lemmas.List.{take_more, take_all}
 use Rattle.node.specs.declared.head.Head.{Head}
 use Rattle.node.specs.Shape.{Tree, number, row, kids, flat, weave, total}
 use Rattle.node.specs.Store.{Tables, Holds, head_in, head_at, numbers}
-use Rattle.node.specs.Links.{edge}
 use Rattle.node.specs.Counts.{Stands, fan, Reached, count, Counted}
 use Rattle.node.specs.Laws.{Recount}
 use Rattle.node.proofs.Runs.{itself_map}
@@ -59,12 +58,8 @@ module _ (H : List Head) where
   pub counted_leaf : (h m : ℕ) → h ≡ 0 → Stands H m → Counted H h m (head_in H m).len
   counted_leaf h m z s = subst (λ k. Counted H k m (head_in H m).len) (sym z) (counted_zero m s)
 
-  pub reached_kid : (h m i : ℕ) → 0 < h → Reached H h m → length (head_in H m).edges ≡ 12 → i < (head_in H m).len + 1 → Reached H (h - 1) (edge H m i)
-  reached_kid h m i l w wide b =
-      let few = (reached_stands h m w).few in
-      let all = reached_fan (h - 1) m (subst (λ k. Reached H k m) (height_suc h l) w) in
-      subst (λ x. Reached H (h - 1) x) (get_or-take ((head_in H m).len + 1) (head_in H m).edges i 0 b)
-      (All-get_or (Reached H (h - 1)) (fan H m) i 0 (simp length-take (omega arith)) all)
+  pub reached_kid : (h m i : ℕ) → 0 < h → Reached H h m → i < length (fan H m) → Reached H (h - 1) (get_or (fan H m) i 0)
+  reached_kid h m i l w b = All-get_or (Reached H (h - 1)) (fan H m) i 0 b (reached_fan (h - 1) m (subst (λ k. Reached H k m) (height_suc h l) w))
 
   counted_most : (h m : ℕ) → Reached H h m → count H h m ≤ most h
   unfolding Reached count
@@ -79,36 +74,38 @@ module _ (H : List Head) where
 
 -- the entries of m itself and of its first i children, which are of height h
 pub record Summed (H : List Head) (h m i n : ℕ) : Type 0 where
-  pub reached : All (Reached H h) (take i (head_in H m).edges)
-  pub sum_is : n ≡ (head_in H m).len + total (count H h) (take i (head_in H m).edges)
+  pub reached : All (Reached H h) (take i (fan H m))
+  pub sum_is : n ≡ (head_in H m).len + total (count H h) (take i (fan H m))
 
 module _ (H : List Head) (h m : ℕ) where
   pub summed_none : Summed H h m 0 (head_in H m).len
   summed_none = record { reached = All-nil (Reached H h); sum_is = omega arith }
 
-  pub summed_more : (i n k : ℕ) → Summed H h m i n → i < length (head_in H m).edges → Counted H h (edge H m i) k → Summed H h m (i + 1) (n + k)
+  pub summed_more : (i n k : ℕ) → Summed H h m i n → i < length (fan H m) → Counted H h (get_or (fan H m) i 0) k → Summed H h m (i + 1) (n + k)
   summed_more i n k w l c =
-      let e = take_more (head_in H m).edges i 0 l in
+      let e = take_more (fan H m) i 0 l in
       record {
-        reached = subst (λ cs. All (Reached H h) cs) (sym e) (All-push (Reached H h) (take i (head_in H m).edges) (edge H m i) w.reached c.reached);
-        sum_is = omega (arith, w.sum_is, c.count_is, ap (total (count H h)) e, total_append (count H h) (take i (head_in H m).edges) (edge H m i ∷ []));
+        reached = subst (λ cs. All (Reached H h) cs) (sym e) (All-push (Reached H h) (take i (fan H m)) (get_or (fan H m) i 0) w.reached c.reached);
+        sum_is = omega (arith, w.sum_is, c.count_is, ap (total (count H h)) e, total_append (count H h) (take i (fan H m)) (get_or (fan H m) i 0 ∷ []));
       }
 
   -- no sum on the way is large
-  pub summed_small : (i n x k : ℕ) → h ≤ 4 → Stands H m → Summed H h m i n → i ≤ 12 → Counted H h x k → n + k < 4000000
-  summed_small i n x k l s w b c =
+  pub summed_small : (i n x k : ℕ) → h ≤ 4 → Stands H m → Summed H h m i n → Counted H h x k → n + k < 4000000
+  summed_small i n x k l s w c =
       let top = most_four h l in
       let few = s.few in
-      let each : All (λ y. count H h y ≤ 248831) (take i (head_in H m).edges) =
-      All-weaker (Reached H h) (λ y. count H h y ≤ 248831) (λ y v. omega (arith, counted_most H h y v)) (take i (head_in H m).edges) w.reached in
-      let sum = total_most (count H h) 248831 (take i (head_in H m).edges) each in
-      let wide : length (take i (head_in H m).edges) ≤ 12 = simp length-take (omega arith) in
+      let each : All (λ y. count H h y ≤ 248831) (take i (fan H m)) =
+      All-weaker (Reached H h) (λ y. count H h y ≤ 248831) (λ y v. omega (arith, counted_most H h y v)) (take i (fan H m)) w.reached in
+      let sum = total_most (count H h) 248831 (take i (fan H m)) each in
+      let wide : length (take i (fan H m)) ≤ 12 = simp length-take (omega arith) in
       omega (arith, w.sum_is, c.count_is, counted_most H h x c.reached)
 
-pub summed_all : (H : List Head) (h m n : ℕ) → 0 < h → Stands H m → Summed H (h - 1) m ((head_in H m).len + 1) n → Counted H h m n
-summed_all H h m n l s w =
-    subst (λ k. Counted H k m n) (sym (height_suc h l))
-    (subst (λ k. Counted H (suc (h - 1)) m k) (sym w.sum_is) (counted_suc H (h - 1) m s w.reached))
+pub summed_all : (H : List Head) (h m i n : ℕ) → 0 < h → Stands H m → length (fan H m) ≤ i → Summed H (h - 1) m i n → Counted H h m n
+summed_all H h m i n l s all w =
+    let e : take i (fan H m) ≡ fan H m = take_all i (fan H m) all in
+    let r = subst (λ cs. All (Reached H (h - 1)) cs) e w.reached in
+    let k = w.sum_is ∙ ap (λ cs. (head_in H m).len + total (count H (h - 1)) cs) e in
+    subst (λ k. Counted H k m n) (sym (height_suc h l)) (subst (λ k. Counted H (suc (h - 1)) m k) (sym k) (counted_suc H (h - 1) m s r))
 
 -- what is counted under a held tree
 module _ {K V : Type 0} where

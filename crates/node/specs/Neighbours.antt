@@ -1,7 +1,8 @@
 -- Two neighbours among the children of a node, as the code names them.
 --   Paired T p i q      q names node p, its entry at index i, and the two children beside it, with the lengths that stand in the tables
+--   HasRows xs q        a table of keys or of values has a row for each of the three, which are different; the entry stands in the parent's row
 --   PairedOf T p i r    where the tables hold such a parent and two children, r answers them
-use Rattle.std.specs.Prelude.{◌≡◌, ℕ, ◌<◌, List, ◌∷◌, ◌++◌, length, Ok, Result}
+use Rattle.std.specs.Prelude.{◌≡◌, ◌≢◌, ℕ, ◌+◌, ◌*◌, ◌<◌, ◌≤◌, List, ◌∷◌, ◌++◌, length, Ok, Result}
 use Rattle.supply.specs.declared.faults.Fault.{Fault}
 use Rattle.node.specs.declared.rows.Pair.{Pair}
 use Rattle.node.specs.Store.{Tables, Sized}
@@ -17,6 +18,19 @@ pub record Paired {K V : Type 0} (T : Tables K V) (p i : ℕ) (q : Pair) : Type 
   pub left_other : q.left ≡ p → ⊥
   pub right_other : q.right ≡ p → ⊥
   pub differ : q.left ≡ q.right → ⊥
+
+pub record HasRows {X : Type 0} (xs : List X) (q : Pair) : Type 0 where
+  pub room : length xs ≤ 11 * 4096
+  pub node : 11 * q.node + 11 ≤ length xs
+  pub left : 11 * q.left + 11 ≤ length xs
+  pub right : 11 * q.right + 11 ≤ length xs
+  pub within : q.idx < q.len
+  pub few : q.len ≤ 11
+  pub left_few : q.left_len ≤ 11
+  pub right_few : q.right_len ≤ 11
+  pub left_other : q.left ≢ q.node
+  pub right_other : q.right ≢ q.node
+  pub differ : q.left ≢ q.right
 
 unfoldable pub PairedOf : {K V : Type 0} → Tables K V → ℕ → ℕ → Result Pair Fault → Type 0
 PairedOf {K} {V} T p i res =

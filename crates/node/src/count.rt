@@ -4,7 +4,6 @@ ghost use Rattle.std.specs.Prelude.{◌≡◌, ℕ, ◌<◌, ◌≤◌, length, 
 ghost use Rattle.node.specs.Store.{head_in};
 ghost use Rattle.node.specs.Counts.{Stands, Reached, Counted};
 
-use crate::edges::edge_at;
 use crate::head::{CAPACITY, Head};
 use crate::nodes::NodeRef;
 use supply::Fault;
@@ -35,10 +34,10 @@ fn dfs(heads: &[Head], height: u16, node: u16) -> Result<usize, Fault>
     if height == 0 {
         return Ok(len);
     }
+    let head = heads[node as usize];
     let mut sum = len;
-    for edge in 0..len + 1 {
-        let child = edge_at(&heads[node as usize].edges, edge);
-        sum += dfs(heads, height - 1, child)?;
+    for child in &head.edges[0..len + 1] {
+        sum += dfs(heads, height - 1, *child)?;
     }
     Ok(sum)
 }

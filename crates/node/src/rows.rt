@@ -1,13 +1,10 @@
 //! The rows of a parent and two of its children, in a table of keys or of values.
 
-ghost use Rattle.std.specs.Prelude.{◌≡◌, ◌+◌, ◌-◌, ◌*◌, ◌<◌, ◌≤◌, length, ◌≢◌};
-ghost use Rattle.node.specs.Rows.{MergedRow, StolenLeft, StolenRight};
-
 use crate::cells::{move_cells, slice_remove};
 use crate::head::CAPACITY;
 
 /// A parent, an entry of it, and the two children beside that entry, each with its number of entries.
-#[derive(Clone, Copy)]
+#[derive(Clone, Copy, PartialEq, Eq, Debug)]
 pub(crate) struct Pair {
     pub(crate) node: u16,
     pub(crate) idx: usize,
@@ -19,16 +16,14 @@ pub(crate) struct Pair {
 }
 
 impl Pair {
+    ghost use Rattle.std.specs.Prelude.{◌+◌, ◌-◌, ◌<◌, ◌≤◌};
+    ghost use Rattle.node.specs.Rows.{MergedRow, StolenLeft, StolenRight};
+    ghost use Rattle.node.specs.Neighbours.{HasRows};
+
     /// Moves the parent's cell and the right row behind the left row.
     pub(crate) fn merge_row<T: Copy>(self, cells: &mut [T])
-        requires room { length cells.old ≤ 11 * 4096 }
-        requires node { 11 * self.node + 11 ≤ length cells.old }
-        requires left { 11 * self.left + 11 ≤ length cells.old }
-        requires right { 11 * self.right + 11 ≤ length cells.old }
-        requires idx { self.idx < self.len }
-        requires few { self.len ≤ 11 }
+        requires rows { HasRows cells.old self }
         requires fits { self.left_len + self.right_len + 1 ≤ 11 }
-        requires apart { (self.left ≢ self.node) × (self.right ≢ self.node) × (self.left ≢ self.right) }
         ensures { MergedRow cells.old cells.new self.node self.idx self.len self.left self.left_len self.right self.right_len }
     {
         let node = CAPACITY * self.node as usize;
@@ -41,15 +36,9 @@ impl Pair {
 
     /// Moves the last `count` + 1 cells of the left row over, through the parent's cell.
     pub(crate) fn steal_left_row<T: Copy>(self, cells: &mut [T], count: usize)
-        requires node { 11 * self.node + 11 ≤ length cells.old }
-        requires left { 11 * self.left + 11 ≤ length cells.old }
-        requires right { 11 * self.right + 11 ≤ length cells.old }
-        requires idx { self.idx < self.len }
-        requires few { self.len ≤ 11 }
+        requires rows { HasRows cells.old self }
         requires enough { count < self.left_len }
-        requires most { self.left_len ≤ 11 }
         requires fits { count + 1 + self.right_len ≤ 11 }
-        requires apart { (self.left ≢ self.node) × (self.right ≢ self.node) × (self.left ≢ self.right) }
         ensures { StolenLeft cells.old cells.new self.node self.idx self.left (self.left_len - 1 - count) count self.right self.right_len }
     {
         let node = CAPACITY * self.node as usize + self.idx;
@@ -63,15 +52,9 @@ impl Pair {
 
     /// Moves the first `count` + 1 cells of the right row over, through the parent's cell.
     pub(crate) fn steal_right_row<T: Copy>(self, cells: &mut [T], count: usize)
-        requires node { 11 * self.node + 11 ≤ length cells.old }
-        requires left { 11 * self.left + 11 ≤ length cells.old }
-        requires right { 11 * self.right + 11 ≤ length cells.old }
-        requires idx { self.idx < self.len }
-        requires few { self.len ≤ 11 }
+        requires rows { HasRows cells.old self }
         requires enough { count < self.right_len }
-        requires most { self.right_len ≤ 11 }
         requires fits { self.left_len + 1 + count ≤ 11 }
-        requires apart { (self.left ≢ self.node) × (self.right ≢ self.node) × (self.left ≢ self.right) }
         ensures { StolenRight cells.old cells.new self.node self.idx self.left self.left_len count self.right (self.right_len - 1 - count) }
     {
         let node = CAPACITY * self.node as usize + self.idx;

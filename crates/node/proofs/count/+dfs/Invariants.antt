@@ -5,5 +5,5 @@ use Rattle.node.proofs.count.+dfs.Given as goal
 abbrev pub decreases-dfs : goal.decreases-dfs
 decreases-dfs l = l.height
 
-abbrev pub invariant-loop-edge : goal.invariant-loop-edge
-invariant-loop-edge l = Summed l.heads (l.height - 1) l.node l.edge l.sum
+abbrev pub invariant-loop-child : goal.invariant-loop-child
+invariant-loop-child l = Summed l.heads (l.height - 1) l.node l.child-index l.sum

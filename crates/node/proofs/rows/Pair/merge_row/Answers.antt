@@ -4,7 +4,7 @@ use Rattle.node.proofs.rows.Pair.merge_row.Goals as goal
 pub returns : goal.returns
 returns g c =
     let s = c.args.self in
-    let a = c.requires.apart in
+    let q = c.requires.rows in
     merged_row c.args.cells.now c.slice_remove-between.new.cells c.move_cells.new.cells s.node s.idx s.len s.left s.left_len s.right s.right_len c.slice_remove-between.result
-    c.requires.node c.requires.left c.requires.right c.requires.idx c.requires.few c.requires.fits a.0 a.1 a.2
+    q.node q.left q.right q.within q.few c.requires.fits q.left_other q.right_other q.differ
     c.slice_remove-between.ensures.value c.slice_remove-between.ensures.after c.move_cells.ensures
