@@ -4,24 +4,21 @@ ghost use Rattle.map.specs.Lookup.{LookupFinds, LookupAlone, LookupBound};
 ghost use Rattle.map.specs.Replacing.{AmendList, AmendFormed};
 
 /// In a formed tree in order a lookup finds the entry whose key is the same as the query, or there is none; where the query stands at one place, there is no other.
-pub fn lookup_stands<K, V, Q>() -> u8
+pub fn lookup_stands<K, V, Q>()
     ensures finds { LookupFinds K V Q }
     ensures alone { LookupAlone K V Q }
 {
-    0
 }
 
 /// A lookup in a formed tree of height h makes at most 11 · (h + 1) comparisons.
-pub fn bound_stands<E>() -> u8
+pub fn bound_stands<E>()
     ensures { LookupBound E }
 {
-    0
 }
 
 /// A replacement changes the entry that the lookup finds, and nothing else in the list; a formed tree stays formed, of the same nodes.
-pub fn replacement_stands<E>() -> u8
+pub fn replacement_stands<E>()
     ensures list { AmendList E }
     ensures formed { AmendFormed E }
 {
-    0
 }

@@ -7,14 +7,13 @@ ghost use Rattle.rules.specs.Levels.{LevelsStand};
 ghost use Rattle.rules.specs.Laws.{WayParts, InsertFormed, InsertFlat, InsertNumbers, InsertSize, InsertSorted, GrowAgrees};
 
 /// The way of a search parts the entries.
-pub fn way_stands<E>() -> u8
+pub fn way_stands<E>()
     ensures { WayParts E }
 {
-    0
 }
 
 /// An insertion keeps a tree formed, adds its entry where the way parts the others, keeps it sorted, and takes the fresh nodes that it needs.
-pub fn insertion_stands<E>() -> u8
+pub fn insertion_stands<E>()
     ensures formed { InsertFormed E }
     ensures gains { InsertFlat E }
     ensures numbers { InsertNumbers E }
@@ -22,26 +21,22 @@ pub fn insertion_stands<E>() -> u8
     ensures sorted { InsertSorted E }
     ensures agrees { GrowAgrees E }
 {
-    0
 }
 
 /// The worked trees of insertion.
-pub fn cases_stand() -> u8
+pub fn cases_stand()
     ensures { WorkedTrees }
 {
-    0
 }
 
 /// Tables hold a tree where they hold its root with its children.
-pub fn held_stands<K, V>() -> u8
+pub fn held_stands<K, V>()
     ensures { HeldStands K V }
 {
-    0
 }
 
 /// A new root leaf holds nothing; a root put above another has it for its only child.
-pub fn levels_stand<K, V>() -> u8
+pub fn levels_stand<K, V>()
     ensures { LevelsStand K V }
 {
-    0
 }
