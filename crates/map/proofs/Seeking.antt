@@ -4,8 +4,14 @@ use Rattle.std.proofs.Common.{◌≡◌, ℕ, zero, suc, ◌+◌, ◌-◌, ◌*�
 use lib.ListN.{length-map}
 use lib.Seq.{split_at}
 use Rattle.std.proofs.lemmas.List.{length-take-le, get_or-map}
+use Rattle.order.specs.declared.search.SearchResult.{SearchResult}
 use Rattle.order.specs.declared.search.SearchResult.TheVariants.{Found, GoDown}
 use Rattle.order.specs.Found.{first_not_below, found_at, comparisons}
+use Rattle.node.specs.declared.nodes.NodeRef.{NodeRef}
+use Rattle.node.specs.declared.nodes.Internal.{Internal}
+use Rattle.node.specs.declared.nodes.ForceResult.TheVariants as kind
+use Rattle.node.specs.Kinds.{forced}
+use Rattle.node.proofs.Forced.{forced_inner}
 use Rattle.node.specs.Cells.{span, Run}
 use Rattle.node.specs.Shape.{Tree, node, none, number, row, kids, kid}
 use Rattle.node.specs.Store.{Tables, Sized, Node, Holds, head_at, first, second, numbers}
@@ -13,7 +19,7 @@ use Rattle.node.specs.Operations.{Strange}
 use Rattle.node.proofs.Tabled.{not_strange}
 use Rattle.node.proofs.Runs.{run_at, edge_is}
 use Rattle.node.proofs.Frames.{height_suc, holds_node, holds_fan, holds_kid}
-use Rattle.map.specs.Lookup.{nth, seek, looks, value_of, FoundIn, PassedIn, keys_at}
+use Rattle.map.specs.Lookup.{nth, seek, looks, value_of, SearchedIn, keys_at}
 
 -- what a result says of the flag and the index
 pub was_found : (b : Bool) (i j : ℕ) → cond b (Found i) (GoDown i) ≡ Found j → (b ≡ true) × (i ≡ j)
@@ -90,21 +96,23 @@ module _ {K V : Type 0} (place : K → Ordering) (T : Tables K V) (h m : ℕ) (t
   made_is : comparisons place (keys_at T m) ≡ comparisons pl (row t)
   made_is = ap (comparisons place) keys ∙ made_map first place (row t)
 
-  -- the search found a key, whose value is x
-  pub sought_here : (x : V) (made : ℕ) → FoundIn place T m x made → (value_of (seek pl h t) ≡ Some x) × (looks pl h t ≡ made)
-  sought_here x made v =
-      let f = was_found (found_at place (keys_at T m)) (first_not_below place (keys_at T m)) v.index v.result in
-      let yes' : found_at pl (row t) ≡ true = sym found_is ∙ f.0 in
-      let s = seek_here pl t h yes' in
-      let j : first_not_below pl (row t) ≡ v.index = sym index_is ∙ f.1 in
-      let l : v.index < length (row t) = omega (arith, found_within pl (row t) yes') in (
-        ap value_of (s.0 ∙ ap (nth (row t)) j) ∙ value_at T.values (11 * m) v.index (row t) x here.values_are l v.value,
-        s.1 ∙ sym made_is ∙ sym v.count,
-      )
+  -- the search came to r
+  module _ {r : SearchResult} (made : ℕ) (v : SearchedIn place T m r made) where
+    -- it found a key, whose value is x
+    pub sought_here : (i : ℕ) (x : V) → r ≡ Found i → x ≡ get_or T.values (11 * m + i) x → (value_of (seek pl h t) ≡ Some x) × (looks pl h t ≡ made)
+    sought_here i x e value =
+        let f = was_found (found_at place (keys_at T m)) (first_not_below place (keys_at T m)) i (v.result ∙ e) in
+        let yes' : found_at pl (row t) ≡ true = sym found_is ∙ f.0 in
+        let s = seek_here pl t h yes' in
+        let j : first_not_below pl (row t) ≡ i = sym index_is ∙ f.1 in
+        let l : i < length (row t) = omega (arith, found_within pl (row t) yes') in (
+          ap value_of (s.0 ∙ ap (nth (row t)) j) ∙ value_at T.values (11 * m) i (row t) x here.values_are l value,
+          s.1 ∙ sym made_is ∙ sym v.count,
+        )
 
-  module _ (i made : ℕ) (v : PassedIn place T m i made) where
+  module _ {r : SearchResult} (i made : ℕ) (v : SearchedIn place T m r made) (e : r ≡ GoDown i) where
     pub passed_by : (found_at place (keys_at T m) ≡ false) × (first_not_below place (keys_at T m) ≡ i)
-    passed_by = was_passed (found_at place (keys_at T m)) (first_not_below place (keys_at T m)) i v.result
+    passed_by = was_passed (found_at place (keys_at T m)) (first_not_below place (keys_at T m)) i (v.result ∙ e)
 
     -- it found none, in a leaf
     pub sought_none : h ≡ 0 → (value_of (seek pl h t) ≡ None) × (looks pl h t ≡ made)
@@ -135,6 +143,23 @@ module _ {K V : Type 0} (place : K → Ordering) (T : Tables K V) (h m : ℕ) (t
             ap value_of (s.0 ∙ ap (λ k. seek pl (h - 1) (kid t k)) j),
             s.1 ∙ ap₂ (λ a b. a + b) (sym made_is ∙ sym v.count) (ap (λ k. looks pl (h - 1) (kid t k)) j),
           )
+
+-- the child that the search goes on in is held, one level lower, and what is found there is the answer
+pub child_under : {K V : Type 0} (place : K → Ordering) (T : Tables K V) (n : NodeRef) (inner : Internal) (x : NodeRef) {r : SearchResult} (i made : ℕ) (t : Tree (K × V))
+    → Holds T n.height t → number t ≡ n.node → SearchedIn place T n.node r made → r ≡ GoDown i → kind.Internal inner ≡ forced n
+    → x.node ≡ get_or (head_at T inner.node).edges i 0 → x.height ≡ inner.height - 1
+    → Holds T x.height (kid t i) × (number (kid t i) ≡ x.node)
+    × (value_of (seek (λ e. place (first e)) n.height t) ≡ value_of (seek (λ e. place (first e)) x.height (kid t i)))
+    × (looks (λ e. place (first e)) n.height t ≡ made + looks (λ e. place (first e)) x.height (kid t i))
+child_under place T n inner x i made t w at v e f node-is height-is =
+    let k = forced_inner n inner f in
+    let z : x.height ≡ n.height - 1 = height-is ∙ ap (λ h. h - 1) k.2 in
+    let b = sought_below place T n.height n.node t w at i made v e k.0 in (
+      subst (λ h. Holds T h (kid t i)) (sym z) (child_holds place T n.height n.node t w at i made v e k.0),
+      child_number place T n.height n.node t w at i made v e k.0 ∙ sym (subst (λ m. x.node ≡ get_or (head_at T m).edges i 0) k.1 node-is),
+      b.0 ∙ ap (λ h. value_of (seek (λ e. place (first e)) h (kid t i))) (sym z),
+      b.1 ∙ ap (λ h. made + looks (λ e. place (first e)) h (kid t i)) (sym z),
+    )
 
 pub held_not_strange : {K V : Type 0} (T : Tables K V) (h m : ℕ) (t : Tree (K × V)) → Sized T → Holds T h t → number t ≡ m → Strange T m → ⊥
 held_not_strange T h m t s w e z = not_strange T (number t) (row t) (numbers t) s (holds_node T h t w) (subst (Strange T) (sym e) z)

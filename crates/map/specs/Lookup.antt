@@ -19,7 +19,6 @@ use Rattle.order.specs.Laws.{Ordered, Placed, Pointed}
 use Rattle.node.specs.Sorted.{Sorted}
 use Rattle.node.specs.Shape.{Tree, number, row, kid, flat, Formed}
 use Rattle.node.specs.Store.{Tables, Sized, Holds, head_at, first, second}
-use Rattle.map.specs.declared.search.Visit.{Visit}
 
 abbrev pub nth : {E : Type 0} → List E → ℕ → Option E
 nth [] i = None
@@ -51,26 +50,6 @@ pub record SearchedIn {K V : Type 0} (place : K → Ordering) (T : Tables K V) (
   pub inside : is_found r ≡ true → index_of r < (head_at T m).len
   pub count : made ≡ comparisons place (keys_at T m)
   pub most : made ≤ 11
-
--- the search in node m found its key at i, with the value x; or it goes down at i
-pub record FoundIn {K V : Type 0} (place : K → Ordering) (T : Tables K V) (m : ℕ) (x : V) (made : ℕ) : Type 0 where
-  pub lies : Lies T m (head_at T m).len
-  pub index : ℕ
-  pub result : searched place (keys_at T m) ≡ Found index
-  pub value : x ≡ slice_index_or T.values (11 * m + index) x
-  pub count : made ≡ comparisons place (keys_at T m)
-  pub most : made ≤ 11
-
-pub record PassedIn {K V : Type 0} (place : K → Ordering) (T : Tables K V) (m index made : ℕ) : Type 0 where
-  pub lies : Lies T m (head_at T m).len
-  pub result : searched place (keys_at T m) ≡ GoDown index
-  pub few : index ≤ 11
-  pub count : made ≡ comparisons place (keys_at T m)
-  pub most : made ≤ 11
-
-abbrev pub Visited : {K V : Type 0} → (K → Ordering) → Tables K V → ℕ → Visit V → Type 0
-Visited place T m (Visit.Found x made) = FoundIn place T m x made
-Visited place T m (Visit.Passed i made) = PassedIn place T m i made
 
 unfoldable pub Seeks : {K V : Type 0} → (K → Ordering) → Tables K V → ℕ → ℕ → Result (Option V × ℕ) Fault → Type 0
 Seeks {K} {V} place T h m r =
