@@ -10,6 +10,7 @@ use Rattle.std.proofs.lemmas.Bool.{cases_eq}
 use Rattle.supply.specs.declared.faults.Fault.{Fault}
 use Rattle.supply.specs.Stocks.{Stock}
 use Rattle.order.specs.Found.{first_not_below, comparisons}
+use Rattle.node.specs.declared.nodes.NodeRef.{NodeRef}
 use Rattle.node.specs.Cells.{span}
 use Rattle.node.specs.Links.{edge}
 use Rattle.node.specs.Shape.{Tree, node, none, number, row, kids, kid, mk, total}
@@ -29,6 +30,7 @@ use Rattle.rules.proofs.Branches.{tops_inside, tops_parts}
 use Rattle.rules.proofs.Ways.{index_le}
 use Rattle.parts.specs.Rules.{cut_left, cut_right, spine, cuts}
 use Rattle.repair.proofs.Mending.{beside_all}
+use Rattle.repair.proofs.Tops.{ref_is}
 use Rattle.cut.specs.Descent.{Stops, beneath, Parted, Cuts}
 use Rattle.cut.proofs.Spines.{spine_inner}
 
@@ -340,6 +342,10 @@ module _ {K V : Type 0} (T : Tables K V) (S : Stock) (fresh : ℕ → ℕ) (h : 
 
 -- ---- for the code
 
+-- an edge is read in the same tables, of the same node
+pub no_edge : {K V : Type 0} {T U : Tables K V} → U ≡ T → (k l j : ℕ) → k ≡ l → l < length T.heads → j < 12 → (k < length U.heads → j < 12 → ⊥) → ⊥
+no_edge {T = T} same k l j e inside few refused = subst (λ (t : Tables _ _). k < length t.heads → j < 12 → ⊥) same refused (subst (λ c. c < length T.heads) (sym e) inside) few
+
 -- what a caller of the cut gives
 pub record Ready {K V : Type 0} (T : Tables K V) (S : Stock) (h m n : ℕ) (t : Tree (K × V)) (fresh : ℕ → ℕ) : Type 0 where
   pub sized : Sized T
@@ -361,13 +367,13 @@ module _ {K V : Type 0} (place : K → Ordering) (T T₁ : Tables K V) (m i made
     turned c = subst (λ x. MovesSuffix T T₁ h x i (number (spine {E = K × V} fresh h)) r) (sym g.at_left) (subst (λ y. MovesSuffix T T₁ h m i y r) (sym g.at_right) c)
 
   -- the entries move, and both nodes lie in the table
-  pub moves : (h : ℕ) → MovesSuffix T T₁ h m i n r → (S : Stock) (t : Tree (K × V)) (fresh : ℕ → ℕ) → Ready T S h m n t fresh → (r ≡ Ok tt) × (n < length T₁.heads)
+  pub moves : (h : ℕ) → MovesSuffix T T₁ h m i n r → (S : Stock) (t : Tree (K × V)) (fresh : ℕ → ℕ) → Ready T S h m n t fresh → (r ≡ Ok tt) × (n < length T₁.heads) × (m < length T₁.heads)
   moves zero c S t fresh g =
       let d = leaf_moved T T₁ fresh t i r S g.sized g.left g.right g.apart (within zero S t fresh g) (turned zero S t fresh g c) in
-      (d.0, subst (λ y. y < length T₁.heads) g.at_right d.2.inside)
+      (d.0, subst (λ y. y < length T₁.heads) g.at_right d.2.inside, subst (λ y. y < length T₁.heads) g.at_left d.1.inside)
   moves (suc h) c S t fresh g =
       let d = inner_moved T S fresh h t i g.sized g.left g.right g.apart (within (suc h) S t fresh g) T₁ r (turned (suc h) S t fresh g c) in
-      (d.0, subst (λ y. y < length T₁.heads) g.at_right d.2.inside)
+      (d.0, subst (λ y. y < length T₁.heads) g.at_right d.2.inside, subst (λ y. y < length T₁.heads) g.at_left d.1.inside)
 
   cut_leaf₀ : MovesSuffix T T₁ zero m i n r → Cuts place T T₁ zero m n (Ok made)
   unfolding Cuts cuts
@@ -380,7 +386,13 @@ module _ {K V : Type 0} (place : K → Ordering) (T T₁ : Tables K V) (m i made
   pub cut_leaf : (h : ℕ) → h ≡ 0 → MovesSuffix T T₁ h m i n r → Cuts place T T₁ h m n (Ok made)
   cut_leaf h e c = subst (λ k. Cuts place T T₁ k m n (Ok made)) (sym e) (cut_leaf₀ (subst (λ k. MovesSuffix T T₁ k m i n r) e c))
 
-  module _ (T₂ : Tables K V) (x y : ℕ) (at_x : x ≡ edge T₁.heads m i) (at_y : y ≡ edge T₁.heads n 0) where
+  module _ {U : Tables K V} (same : U ≡ T₁) (T₂ : Tables K V) (k x y : ℕ) (is_k : k ≡ m) (at_k : x ≡ edge U.heads k i) (at_n : y ≡ edge U.heads n 0) where
+    at_x : x ≡ edge T₁.heads m i
+    at_x = at_k ∙ ap (λ (t : Tables K V). edge t.heads k i) same ∙ ap (λ c. edge T₁.heads c i) is_k
+
+    at_y : y ≡ edge T₁.heads n 0
+    at_y = at_n ∙ ap (λ (t : Tables K V). edge t.heads n 0) same
+
     -- the recursion is called on the child and on the spine below
     calls : (h : ℕ) → MovesSuffix T T₁ (suc h) m i n r → (q : Result ℕ Fault) → Cuts place T₁ T₂ h x y q → (S : Stock) (t : Tree (K × V)) (fresh : ℕ → ℕ) → Ready T S (suc h) m n t fresh
         → (q ≡ Ok (cuts (λ e. place (first e)) h (kid t i))) × Parted place T₁ T₂ S h (kid t i) fresh
@@ -407,11 +419,15 @@ module _ {K V : Type 0} (place : K → Ordering) (T T₁ : Tables K V) (m i made
           inner_parted T S fresh h t i sized w z apart (within (suc h) S t fresh g) T₁ r (turned (suc h) S t fresh g c) place (stopped (suc h) S t fresh g) T₂ d.1,
         )
 
-    pub cut_inner : (h below : ℕ) → 0 < h → MovesSuffix T T₁ h m i n r → Cuts place T₁ T₂ (h - 1) x y (Ok below) → Cuts place T T₂ h m n (Ok (made + below))
-    cut_inner h below up c ih =
-        subst (λ k. Cuts place T T₂ k m n (Ok (made + below))) (sym (height_suc h up)) (cut_inner₁ (h - 1) below (subst (λ k. MovesSuffix T T₁ k m i n r) (height_suc h up) c) ih)
+    module _ (h : ℕ) (up : 0 < h) (c : MovesSuffix T T₁ h m i n r) (low : NodeRef) (is_x : low.node ≡ x) (lower : low.height ≡ h - 1) where
+      called : (q : Result ℕ Fault) → Cuts place T₁ T₂ low.height low.node y q → Cuts place T₁ T₂ (h - 1) x y q
+      called q ih = subst (λ (k : NodeRef). Cuts place T₁ T₂ k.height k.node y q) (ref_is low x (h - 1) is_x lower) ih
 
-    -- and it is not refused
-    pub not_refused : (h : ℕ) → 0 < h → MovesSuffix T T₁ h m i n r → (f : Fault) → Cuts place T₁ T₂ (h - 1) x y (Err f) → (S : Stock) (t : Tree (K × V)) (fresh : ℕ → ℕ) → Ready T S h m n t fresh → ⊥
-    not_refused h up c f ih S t fresh g =
-        err_not_ok _ _ (calls (h - 1) (subst (λ k. MovesSuffix T T₁ k m i n r) (height_suc h up) c) (Err f) ih S t fresh (subst (λ k. Ready T S k m n t fresh) (height_suc h up) g)).0
+      pub cut_inner : (below : ℕ) → Cuts place T₁ T₂ low.height low.node y (Ok below) → Cuts place T T₂ h m n (Ok (made + below))
+      cut_inner below ih =
+          subst (λ k. Cuts place T T₂ k m n (Ok (made + below))) (sym (height_suc h up)) (cut_inner₁ (h - 1) below (subst (λ k. MovesSuffix T T₁ k m i n r) (height_suc h up) c) (called (Ok below) ih))
+
+      -- and it is not refused
+      pub not_refused : (f : Fault) → Cuts place T₁ T₂ low.height low.node y (Err f) → (S : Stock) (t : Tree (K × V)) (fresh : ℕ → ℕ) → Ready T S h m n t fresh → ⊥
+      not_refused f ih S t fresh g =
+          err_not_ok _ _ (calls (h - 1) (subst (λ k. MovesSuffix T T₁ k m i n r) (height_suc h up) c) (Err f) (called (Err f) ih) S t fresh (subst (λ k. Ready T S k m n t fresh) (height_suc h up) g)).0

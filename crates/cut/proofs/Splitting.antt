@@ -50,18 +50,18 @@ module _ {K V : Type 0} (place : K → Ordering) (T T' : Tables K V) (S S' : Sto
   right_is : right ≡ root_of r
   right_is = ap (λ z. z.1) three
 
-  pub counts_to : (res : Result (ℕ × ℕ) Fault) → CountsBoth T'.heads left right count res → res ≡ Ok (a, b)
-  counts_to res c =
-      c a b
+  pub counts_to : {U : Tables K V} → U ≡ T' → (res : Result (ℕ × ℕ) Fault) → CountsBoth U.heads left right count res → res ≡ Ok (a, b)
+  counts_to same res c =
+      subst (λ (U : Tables K V). CountsBoth U.heads left right count res) same c a b
       (subst (λ n. Counted T'.heads n.height n.node a) (sym left_is) (recount T' l.0 l.1 v.halved.left))
       (subst (λ n. Counted T'.heads n.height n.node b) (sym right_is) (recount T' r.0 r.1 v.halved.right))
       (subst (λ n. n.height ≤ 5) (sym left_is) (omega (arith, repair_low Last h (cut_left (beneath place) h t))))
       (subst (λ n. n.height ≤ 5) (sym right_is) (omega (arith, repair_low First h (cut_right v.fresh (beneath place) h t))))
       (size ∙ ap length (sym (cut_parts v.fresh (beneath place) h t formed).0) ∙ length-append (flat l.0 l.1) (flat r.0 r.1))
 
-  pub split_at : (before after : ℕ) → CountsBoth T'.heads left right count (Ok (before, after)) → Split place T T' S S' h t (Ok (record { parts = Some (left, right); counts = (before, after, made) }))
-  split_at before after c =
-      let two : ◌≡◌ {A = ℕ × ℕ} (before, after) (a, b) = ok_same _ _ (counts_to (Ok (before, after)) c) in
+  pub split_at : {U : Tables K V} → U ≡ T' → (before after : ℕ) → CountsBoth U.heads left right count (Ok (before, after)) → Split place T T' S S' h t (Ok (record { parts = Some (left, right); counts = (before, after, made) }))
+  split_at same before after c =
+      let two : ◌≡◌ {A = ℕ × ℕ} (before, after) (a, b) = ok_same _ _ (counts_to same (Ok (before, after)) c) in
       record {
         fresh = v.fresh;
         answer = ap₂ tell three two;

@@ -2,12 +2,11 @@
 
 ghost use Rattle.std.specs.Prelude.{◌+◌, ◌*◌, ◌≤◌, IfOk, MatchResult};
 ghost use Rattle.node.specs.Operations.{Strange};
-ghost use Rattle.node.specs.Store.{tables};
 ghost use Rattle.cut.specs.Descent.{Stops, Cuts};
 
 use map::search::search_in;
-use node::head::Head;
-use node::nodes::NodeRef;
+use node::nodes::{ForceResult, NodeRef};
+use node::tables::{Tables, TablesMut};
 use order::keys::{KeyOrder, Placing, Query};
 use order::search::SearchResult;
 use repair::joint::edge_of;
@@ -15,15 +14,13 @@ use supply::Fault;
 
 /// Searches in `node`: the index of the first key that is not below the query, and the comparisons made.
 fn stop_in<K: KeyOrder, V, Q: Query<K>>(
-    heads: &[Head],
-    keys: &[K],
-    values: &[V],
+    tables: &Tables<'_, K, V>,
     node: u16,
     query: &Q,
 ) -> Result<(usize, usize), Fault>
-    ensures { MatchResult result (λ p. Stops (Q.Placing.places query.now) (tables heads.now keys.now values.now) node p.0 p.1) (λ _. Strange (tables heads.now keys.now values.now) node) }
+    ensures { MatchResult result (λ p. Stops (Q.Placing.places query.now) tables.now node p.0 p.1) (λ _. Strange tables.now node) }
 {
-    let (found, count) = search_in(heads, keys, values, node, query)?;
+    let (found, count) = search_in(tables, node, query)?;
     match found {
         SearchResult::Found(idx) => Ok((idx, count)),
         SearchResult::GoDown(idx) => Ok((idx, count)),
@@ -32,25 +29,23 @@ fn stop_in<K: KeyOrder, V, Q: Query<K>>(
 
 /// Moves what is not below the query from the tree under `node` to the spine under `right`, and answers the comparisons made.
 pub(crate) fn cut_under<K: KeyOrder, V: Copy, Q: Query<K>>(
-    heads: &mut [Head],
-    keys: &mut [K],
-    values: &mut [V],
-    height: u16,
-    node: u16,
+    tables: &mut TablesMut<'_, K, V>,
+    node: NodeRef,
     right: u16,
     query: &Q,
 ) -> Result<usize, Fault>
-    requires { height ≤ 5 }
-    ensures bound { IfOk result (λ n. n ≤ 11 * (height + 1)) }
-    ensures cuts { Cuts (Q.Placing.places query.now) (tables heads.old keys.old values.old) (tables heads.new keys.new values.new) height node right result }
+    requires { node.height ≤ 5 }
+    ensures bound { IfOk result (λ n. n ≤ 11 * (node.height + 1)) }
+    ensures cuts { Cuts (Q.Placing.places query.now) tables.old tables.new node.height node.node right result }
 {
-    let (idx, count) = stop_in(heads, keys, values, node, query)?;
-    NodeRef { node, height }.move_suffix(heads, keys, values, idx, right)?;
-    if height == 0 {
+    let (idx, count) = stop_in(&tables.as_tables(), node.node, query)?;
+    node.move_suffix(tables, idx, right)?;
+    let ForceResult::Internal(inner) = node.force() else {
         return Ok(count);
-    }
-    let child = edge_of(heads, node, idx)?;
-    let beside = edge_of(heads, right, 0)?;
-    let below = cut_under(heads, keys, values, height - 1, child, beside, query)?;
+    };
+    let parted = tables.as_tables();
+    let child = edge_of(parted.heads, inner.node, idx)?;
+    let beside = edge_of(parted.heads, right, 0)?;
+    let below = cut_under(tables, inner.child(child), beside, query)?;
     Ok(count + below)
 }

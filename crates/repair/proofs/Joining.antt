@@ -128,26 +128,27 @@ module _ {K V : Type 0} (s : Side) (T : Tables K V) (h p i : ℕ) where
     w' : Neighbours T S (suc (h - 1)) p i us e ws A l r B
     w' = lowered S us e ws A l r B w
 
-    pub no_edge : i < 11 → (j : ℕ) → j ≡ border_edge s i → (p < length T.heads → j < 12 → ⊥) → ⊥
-    no_edge small j at f = f (inside T S (h - 1) p i us e ws A l r B w') (low s at)
+    pub no_edge : {U : Tables K V} → U ≡ T → i < 11 → (j : ℕ) → j ≡ border_edge s i → (p < length U.heads → j < 12 → ⊥) → ⊥
+    no_edge same small j at f = subst (λ (t : Tables K V). p < length t.heads → j < 12 → ⊥) same f (inside T S (h - 1) p i us e ws A l r B w') (low s at)
       where
         low : (s : Side) → j ≡ border_edge s i → j < 12
         low First q = omega arith
         low Last q = omega arith
 
-    -- the border child as the code reads it
-    module _ (j child len : ℕ) (at_j : j ≡ border_edge s i) (at : child ≡ edge T.heads p j) where
+    -- the border child as the code reads it, in the same tables
+    module _ {U W : Tables K V} (same : U ≡ T) (seen : W ≡ U) (j child len : ℕ) (at_j : j ≡ border_edge s i) (at : child ≡ edge W.heads p j) where
       is_next : child ≡ number (next_to s l r)
-      is_next = at ∙ ap (edge T.heads p) at_j ∙ next_edge T S (h - 1) p i us e ws A l r B w' s
+      is_next = at ∙ ap (λ (t : Tables K V). edge t.heads p j) (seen ∙ same) ∙ ap (edge T.heads p) at_j ∙ next_edge T S (h - 1) p i us e ws A l r B w' s
 
-      pub no_length : Strange T child → ⊥
+      pub no_length : Strange U child → ⊥
       no_length z =
-          not_strange T (number (next_to s l r)) (row (next_to s l r)) (map number (kids (next_to s l r))) w.owns.sized (next_node T S (h - 1) p i us e ws A l r B w' s) (subst (Strange T) is_next z)
+          not_strange T (number (next_to s l r)) (row (next_to s l r)) (map number (kids (next_to s l r))) w.owns.sized (next_node T S (h - 1) p i us e ws A l r B w' s)
+          (subst (Strange T) is_next (subst (λ t. Strange t child) same z))
 
-      module _ (here : (head_at T child).len ≡ len) (more : 11 < length (row l) + length (row r) + 1) where
+      module _ (here : (head_at U child).len ≡ len) (more : 11 < length (row l) + length (row r) + 1) where
         is_length : bordering s (length (row l)) (length (row r)) ≡ len
         is_length =
-            sym (next_length T S (h - 1) p i us e ws A l r B w' s) ∙ sym (next_node T S (h - 1) p i us e ws A l r B w' s).len_is ∙ sym (ap (λ c. (head_at T c).len) is_next) ∙ here
+            sym (next_length T S (h - 1) p i us e ws A l r B w' s) ∙ sym (next_node T S (h - 1) p i us e ws A l r B w' s).len_is ∙ sym (ap (λ c. (head_at T c).len) is_next) ∙ sym (ap (λ (t : Tables K V). (head_at t child).len) same) ∙ here
 
         back : (T' : Tables K V) (n : ℕ) → child ≡ n → Joined s T T' S S (suc (h - 1)) p us e ws A l r B (joint s l e r) (Ok n) → Joined s T T' S S h p us e ws A l r B (joint s l e r) (Ok child)
         back T' n z v =
@@ -179,15 +180,15 @@ module _ {K V : Type 0} (s : Side) (T : Tables K V) (S : Stock) (h p i : ℕ) (u
   v : Neighbours T S (suc (h - 1)) p i us e ws A l r B
   v = subst (λ k. Neighbours T S k p i us e ws A l r B) (height_suc h w.above) w
 
-  pub tells_fit : (res : Result Bool Fault) → CanMerge T p i res → res ≡ Ok (leb (length (row l) + length (row r) + 1) 11)
+  pub tells_fit : {U : Tables K V} → U ≡ T → (res : Result Bool Fault) → CanMerge U p i res → res ≡ Ok (leb (length (row l) + length (row r) + 1) 11)
   unfolding CanMerge
-  tells_fit res c = c (number l) (number r) us e ws (row l) (row r) (map number A) (map number B) (map number (kids l)) (map number (kids r)) w.owns.sized (pairs T S (h - 1) p i us e ws A l r B v)
+  tells_fit same res c = subst (λ t. CanMerge t p i res) same c (number l) (number r) us e ws (row l) (row r) (map number A) (map number B) (map number (kids l)) (map number (kids r)) w.owns.sized (pairs T S (h - 1) p i us e ws A l r B v)
 
-  pub fits_in : (b : Bool) → CanMerge T p i (Ok b) → b ≡ true → length (row l) + length (row r) + 1 ≤ 11
-  fits_in b c z = leb-true (length (row l) + length (row r) + 1) 11 (sym (ok_same _ _ (tells_fit (Ok b) c)) ∙ z)
+  pub fits_in : {U : Tables K V} → U ≡ T → (b : Bool) → CanMerge U p i (Ok b) → b ≡ true → length (row l) + length (row r) + 1 ≤ 11
+  fits_in same b c z = leb-true (length (row l) + length (row r) + 1) 11 (sym (ok_same _ _ (tells_fit same (Ok b) c)) ∙ z)
 
-  pub fits_not : (b : Bool) → CanMerge T p i (Ok b) → b ≡ false → 11 < length (row l) + length (row r) + 1
-  fits_not b c z = leb-false (length (row l) + length (row r) + 1) 11 (sym (ok_same _ _ (tells_fit (Ok b) c)) ∙ z)
+  pub fits_not : {U : Tables K V} → U ≡ T → (b : Bool) → CanMerge U p i (Ok b) → b ≡ false → 11 < length (row l) + length (row r) + 1
+  fits_not same b c z = leb-false (length (row l) + length (row r) + 1) 11 (sym (ok_same _ _ (tells_fit same (Ok b) c)) ∙ z)
 
   module _ (fit : length (row l) + length (row r) + 1 ≤ 11) (T' : Tables K V) (res : Result (ℕ × ℕ) Fault) (did : Merges T T' h p i res) where
     did' : Merges T T' (suc (h - 1)) p i res

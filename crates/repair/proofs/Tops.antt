@@ -44,7 +44,8 @@ module _ {E : Type 0} where
   unfolding fix_top
   top_off h t z = ap (λ es. lifted es (fix_top h (kid t 0)) (suc h, t)) z
 
-ref_is : (n : NodeRef) (m k : ℕ) → n.node ≡ m → n.height ≡ k → n ≡ record { node = m; height = k }
+-- a node by its number and its height
+pub ref_is : (n : NodeRef) (m k : ℕ) → n.node ≡ m → n.height ≡ k → n ≡ record { node = m; height = k }
 ref_is n m k p q = ap₂ (λ a b. record { node = a; height = b }) p q
 
 -- ---- a root that stays

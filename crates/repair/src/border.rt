@@ -2,19 +2,18 @@
 
 ghost use Rattle.std.specs.Prelude.{◌≡◌, ◌<◌};
 ghost use Rattle.node.specs.declared.ends.Side.TheVariants.{First, Last};
-ghost use Rattle.node.specs.Store.{tables};
 ghost use Rattle.parts.specs.Rules.{beside};
 ghost use Rattle.repair.specs.Repair.{Mends, Repairs};
 
 use crate::joint::join_at;
 use crate::top::fix_top;
 use node::ends::Side;
-use node::head::Head;
-use node::nodes::{Internal, NodeRef, len_in};
+use node::nodes::{ForceResult, NodeRef};
+use node::tables::TablesMut;
 use supply::{Fault, Supply};
 
 /// The index of the entry beside the border child, in a node of `len` entries.
-fn entry_beside(side: Side, len: usize) -> usize
+fn border_entry(side: Side, len: usize) -> usize
     requires { 0 < len }
     ensures { result ≡ beside side len }
 {
@@ -26,67 +25,57 @@ fn entry_beside(side: Side, len: usize) -> usize
 
 /// Mends the border under `node`: the border child is merged with its neighbour or raised to six entries, and so on in the border child.
 fn mend<K: Copy, V: Copy, S: Supply>(
-    heads: &mut [Head],
-    keys: &mut [K],
-    values: &mut [V],
+    tables: &mut TablesMut<'_, K, V>,
     supply: &mut S,
     side: Side,
-    height: u16,
-    node: u16,
+    node: NodeRef,
 ) -> Result<(), Fault>
-    ensures { Mends side (tables heads.old keys.old values.old) (tables heads.new keys.new values.new) (S.stock supply.old) (S.stock supply.new) height node result }
+    ensures { Mends side tables.old tables.new (S.stock supply.old) (S.stock supply.new) node.height node.node result }
 {
-    if height == 0 {
+    let ForceResult::Internal(parent) = node.force() else {
         return Ok(());
-    }
-    let len = len_in(heads, keys, values, node)?;
+    };
+    let len = tables.as_tables().len_in(parent.node)?;
     if len == 0 {
         return Ok(());
     }
-    let idx = entry_beside(side, len);
-    let parent = Internal { node, height };
-    let child = join_at(heads, keys, values, supply, side, parent, idx)?;
-    mend(heads, keys, values, supply, side, height - 1, child)
+    let idx = border_entry(side, len);
+    let child = join_at(tables, supply, side, parent, idx)?;
+    mend(tables, supply, side, parent.child(child))
 }
 
 /// Takes roots without entries off, mends the border at `side`, and takes roots without entries off again.
 fn fix_border<K: Copy, V: Copy, S: Supply>(
-    heads: &mut [Head],
-    keys: &mut [K],
-    values: &mut [V],
+    tables: &mut TablesMut<'_, K, V>,
     supply: &mut S,
     side: Side,
     root: NodeRef,
 ) -> Result<NodeRef, Fault>
-    ensures { Repairs side (tables heads.old keys.old values.old) (tables heads.new keys.new values.new) (S.stock supply.old) (S.stock supply.new) root.height root.node result }
+    ensures { Repairs side tables.old tables.new (S.stock supply.old) (S.stock supply.new) root.height root.node result }
 {
-    let top = fix_top(heads, keys, values, supply, root)?;
-    mend(heads, keys, values, supply, side, top.height, top.node)?;
-    fix_top(heads, keys, values, supply, top)
+    let top = fix_top::<K, V, S>(tables.heads, supply, root)?;
+    mend(tables, supply, side, top)?;
+    fix_top::<K, V, S>(tables.heads, supply, top)
 }
 
 /// Repairs the right border of a tree whose right part was cut off, and answers its root.
 pub fn fix_right_border<K: Copy, V: Copy, S: Supply>(
-    heads: &mut [Head],
-    keys: &mut [K],
-    values: &mut [V],
+    tables: &mut TablesMut<'_, K, V>,
     supply: &mut S,
     root: NodeRef,
 ) -> Result<NodeRef, Fault>
-    ensures { Repairs Last (tables heads.old keys.old values.old) (tables heads.new keys.new values.new) (S.stock supply.old) (S.stock supply.new) root.height root.node result }
+    ensures { Repairs Last tables.old tables.new (S.stock supply.old) (S.stock supply.new) root.height root.node result }
 {
-    fix_border(heads, keys, values, supply, Side::Last, root)
+    fix_border(tables, supply, Side::Last, root)
 }
 
 /// Repairs the left border of a tree whose left part was cut off, and answers its root.
 pub fn fix_left_border<K: Copy, V: Copy, S: Supply>(
-    heads: &mut [Head],
-    keys: &mut [K],
-    values: &mut [V],
+    tables: &mut TablesMut<'_, K, V>,
     supply: &mut S,
     root: NodeRef,
 ) -> Result<NodeRef, Fault>
-    ensures { Repairs First (tables heads.old keys.old values.old) (tables heads.new keys.new values.new) (S.stock supply.old) (S.stock supply.new) root.height root.node result }
+    ensures { Repairs First tables.old tables.new (S.stock supply.old) (S.stock supply.new) root.height root.node result }
 {
-    fix_border(heads, keys, values, supply, Side::First, root)
+    fix_border(tables, supply, Side::First, root)
 }

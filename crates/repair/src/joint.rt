@@ -2,12 +2,12 @@
 
 ghost use Rattle.std.specs.Prelude.{◌≡◌, ◌+◌, ◌<◌, length, MatchResult};
 ghost use Rattle.node.specs.Links.{edge};
-ghost use Rattle.node.specs.Store.{tables};
 ghost use Rattle.repair.specs.Joint.{border_edge, Raises, Joins};
 
 use node::ends::Side;
 use node::head::{B, CAPACITY, Head};
-use node::nodes::{Internal, len_in};
+use node::nodes::Internal;
+use node::tables::TablesMut;
 use supply::{Fault, Supply};
 
 /// The edge of `node` at `idx`.
@@ -34,22 +34,21 @@ fn border_edge(side: Side, idx: usize) -> usize
 
 /// Raises the border child beside the entry at `idx` to six entries, where it has fewer, and answers it.
 fn raise<K: Copy, V: Copy>(
-    heads: &mut [Head],
-    keys: &mut [K],
-    values: &mut [V],
+    tables: &mut TablesMut<'_, K, V>,
     side: Side,
     parent: Internal,
     idx: usize,
 ) -> Result<u16, Fault>
     requires { idx < 11 }
-    ensures { Raises side (tables heads.old keys.old values.old) (tables heads.new keys.new values.new) parent.height parent.node idx result }
+    ensures { Raises side tables.old tables.new parent.height parent.node idx result }
 {
-    let child = edge_of(heads, parent.node, border_edge(side, idx))?;
-    let len = len_in(heads, keys, values, child)?;
+    let shown = tables.as_tables();
+    let child = edge_of(shown.heads, parent.node, border_edge(side, idx))?;
+    let len = shown.len_in(child)?;
     if len < B {
         match side {
-            Side::First => parent.bulk_steal_right(heads, keys, values, idx, B - len)?,
-            Side::Last => parent.bulk_steal_left(heads, keys, values, idx, B - len)?,
+            Side::First => parent.bulk_steal_right(tables, idx, B - len)?,
+            Side::Last => parent.bulk_steal_left(tables, idx, B - len)?,
         }
     }
     Ok(child)
@@ -58,22 +57,20 @@ fn raise<K: Copy, V: Copy>(
 /// Merges the children beside the entry at `idx` where they fit into one node, and gives the right one back; else raises the one at the border.
 /// Answers the border child.
 pub(crate) fn join_at<K: Copy, V: Copy, S: Supply>(
-    heads: &mut [Head],
-    keys: &mut [K],
-    values: &mut [V],
+    tables: &mut TablesMut<'_, K, V>,
     supply: &mut S,
     side: Side,
     parent: Internal,
     idx: usize,
 ) -> Result<u16, Fault>
     requires { idx < 11 }
-    ensures { Joins side (tables heads.old keys.old values.old) (tables heads.new keys.new values.new) (S.stock supply.old) (S.stock supply.new) parent.height parent.node idx result }
+    ensures { Joins side tables.old tables.new (S.stock supply.old) (S.stock supply.new) parent.height parent.node idx result }
 {
-    let fits = parent.can_merge(heads, keys, values, idx)?;
+    let fits = parent.can_merge(&tables.as_tables(), idx)?;
     if fits {
-        let (left, right) = parent.merge(heads, keys, values, idx)?;
+        let (left, right) = parent.merge(tables, idx)?;
         supply.give_back(right)?;
         return Ok(left);
     }
-    raise(heads, keys, values, side, parent, idx)
+    raise(tables, side, parent, idx)
 }

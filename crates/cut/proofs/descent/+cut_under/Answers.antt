@@ -1,82 +1,79 @@
-use Rattle.std.proofs.Common.{arith}
-use Rattle.std.proofs.lemmas.Result.{IfOk-from_err}
-use Rattle.node.specs.Store.{tables}
+use Rattle.std.proofs.Common.{◌-◌, ◌∙◌, refl, ap, subst, arith}
+use Rattle.node.specs.Operations.{Strange}
+use Rattle.node.proofs.Forced.{forced_leaf, forced_inner}
 use Rattle.node.proofs.Tabled.{err_not_ok}
 use Rattle.repair.proofs.Becoming.{held_not_strange}
 use Rattle.cut.specs.Descent.{Stops, Cuts}
-use Rattle.cut.proofs.Descends.{moves, cut_leaf, cut_inner, not_refused}
+use Rattle.cut.proofs.Descends.{moves, no_edge, cut_leaf, cut_inner, not_refused}
 use Rattle.cut.proofs.descent.+cut_under.Goals as goal
 
-pub returns-in_err-idx : goal.returns-in_err-idx
+pub returns-in_err-idx-clause-cuts : goal.returns-in_err-idx-clause-cuts
 unfolding Cuts
-returns-in_err-idx g _ c = record {
-  bound = IfOk-from_err c.from_residual.result _ c.from_residual.ensures.0;
-  cuts = λ S t fresh s w z em en a. absurd (held_not_strange (tables c.args.heads.now c.args.keys.now c.args.values.now) c.args.height c.args.node t s w em c.in_err-idx.ensures);
-}
+returns-in_err-idx-clause-cuts g _ c = λ S t fresh s w z em en a.
+    absurd (held_not_strange c.args.tables.now c.args.node.height c.args.node.node t s w em (subst (λ T. Strange T c.args.node.node) c.as_tables.ensures c.in_err-idx.ensures))
 
-pub returns-in_err-move_suffix : goal.returns-in_err-move_suffix
+pub returns-in_err-move_suffix-clause-cuts : goal.returns-in_err-move_suffix-clause-cuts
 unfolding Cuts
-returns-in_err-move_suffix g _ c =
+returns-in_err-move_suffix-clause-cuts g _ c = λ S t fresh s w z em en a.
     let place = g.Q.Placing.places c.args.query.now in
-    let T = tables c.args.heads.now c.args.keys.now c.args.values.now in
-    let T₁ = tables c.move_suffix.new.heads c.move_suffix.new.keys c.move_suffix.new.values in
-    record {
-      bound = IfOk-from_err c.from_residual-in_err-move_suffix.result _ c.from_residual-in_err-move_suffix.ensures.0;
-      cuts = λ S t fresh s w z em en a.
-          absurd (err_not_ok _ _ (moves place T T₁ c.args.node c.in_ok-idx.idx c.in_ok-idx.count c.args.right c.in_ok-idx.ensures _ c.args.height
-          c.in_err-move_suffix.ensures S t fresh (record { sized = s; left = w; right = z; at_left = em; at_right = en; apart = a })).0);
-    }
+    let n = c.args.node in
+    let v = subst (λ T. Stops place T n.node c.in_ok-idx.idx c.in_ok-idx.count) c.as_tables.ensures c.in_ok-idx.ensures in
+    absurd (err_not_ok _ _ (moves place c.args.tables.now c.move_suffix.new.tables n.node c.in_ok-idx.idx c.in_ok-idx.count c.args.right v _ n.height
+    c.in_err-move_suffix.ensures S t fresh (record { sized = s; left = w; right = z; at_left = em; at_right = en; apart = a })).0)
 
-pub returns-then-height-eq0 : goal.returns-then-height-eq0
-returns-then-height-eq0 g _ c =
+pub returns-in_default-clause-cuts : goal.returns-in_default-clause-cuts
+returns-in_default-clause-cuts g _ c =
     let place = g.Q.Placing.places c.args.query.now in
-    let T = tables c.args.heads.now c.args.keys.now c.args.values.now in
-    let T₁ = tables c.move_suffix.new.heads c.move_suffix.new.keys c.move_suffix.new.values in
-    let v : Stops place T c.args.node c.in_ok-idx.idx c.in_ok-idx.count = c.in_ok-idx.ensures in
-    record {
-      bound = omega (arith, v.most);
-      cuts = cut_leaf place T T₁ c.args.node c.in_ok-idx.idx c.in_ok-idx.count c.args.right v _ c.args.height c.if-height-eq0.true c.in_ok-move_suffix.ensures;
-    }
+    let n = c.args.node in
+    let v = subst (λ T. Stops place T n.node c.in_ok-idx.idx c.in_ok-idx.count) c.as_tables.ensures c.in_ok-idx.ensures in
+    cut_leaf place c.args.tables.now c.move_suffix.new.tables n.node c.in_ok-idx.idx c.in_ok-idx.count c.args.right v _ n.height
+    (forced_leaf n c.in_default.field-0 c.in_default.ensures).0 c.in_ok-move_suffix.ensures
 
-pub returns-in_err-beside : goal.returns-in_err-beside
+pub returns-in_err-child-clause-cuts : goal.returns-in_err-child-clause-cuts
 unfolding Cuts
-returns-in_err-beside g _ c =
+returns-in_err-child-clause-cuts g _ c = λ S t fresh s w z em en a.
     let place = g.Q.Placing.places c.args.query.now in
-    let T = tables c.args.heads.now c.args.keys.now c.args.values.now in
-    let T₁ = tables c.move_suffix.new.heads c.move_suffix.new.keys c.move_suffix.new.values in
-    record {
-      bound = IfOk-from_err c.from_residual-in_err-beside.result _ c.from_residual-in_err-beside.ensures.0;
-      cuts = λ S t fresh s w z em en a.
-          absurd (c.in_err-beside.ensures
-          (moves place T T₁ c.args.node c.in_ok-idx.idx c.in_ok-idx.count c.args.right c.in_ok-idx.ensures _ c.args.height
-          c.in_ok-move_suffix.ensures S t fresh (record { sized = s; left = w; right = z; at_left = em; at_right = en; apart = a })).1
-          (omega arith));
-    }
+    let T = c.args.tables.now in
+    let T₁ = c.move_suffix.new.tables in
+    let n = c.args.node in
+    let v = subst (λ T. Stops place T n.node c.in_ok-idx.idx c.in_ok-idx.count) c.as_tables.ensures c.in_ok-idx.ensures in
+    let k = forced_inner n c.in-Internal.inner c.in-Internal.ensures in
+    let d = moves place T T₁ n.node c.in_ok-idx.idx c.in_ok-idx.count c.args.right v _ n.height
+    c.in_ok-move_suffix.ensures S t fresh (record { sized = s; left = w; right = z; at_left = em; at_right = en; apart = a }) in
+    absurd (no_edge (c.parted.view_is ∙ c.as_tables-parted.ensures)
+    c.in-Internal.inner.node n.node c.in_ok-idx.idx k.1 d.2 (omega (arith, v.few)) c.in_err-child.ensures)
 
-pub returns-in_err-below : goal.returns-in_err-below
+pub returns-in_err-beside-clause-cuts : goal.returns-in_err-beside-clause-cuts
 unfolding Cuts
-returns-in_err-below g _ c =
+returns-in_err-beside-clause-cuts g _ c = λ S t fresh s w z em en a.
     let place = g.Q.Placing.places c.args.query.now in
-    let T = tables c.args.heads.now c.args.keys.now c.args.values.now in
-    let T₁ = tables c.move_suffix.new.heads c.move_suffix.new.keys c.move_suffix.new.values in
-    let T₂ = tables c.cut_under.new.heads c.cut_under.new.keys c.cut_under.new.values in
-    record {
-      bound = IfOk-from_err c.from_residual-in_err-below.result _ c.from_residual-in_err-below.ensures.0;
-      cuts = λ S t fresh s w z em en a.
-          absurd (not_refused place T T₁ c.args.node c.in_ok-idx.idx c.in_ok-idx.count c.args.right c.in_ok-idx.ensures _ T₂ c.in_ok-child.child c.in_ok-beside.beside
-          c.in_ok-child.ensures c.in_ok-beside.ensures c.args.height (omega arith) c.in_ok-move_suffix.ensures _ c.in_err-below.ensures.cuts
-          S t fresh (record { sized = s; left = w; right = z; at_left = em; at_right = en; apart = a }));
-    }
+    let T = c.args.tables.now in
+    let T₁ = c.move_suffix.new.tables in
+    let n = c.args.node in
+    let v = subst (λ T. Stops place T n.node c.in_ok-idx.idx c.in_ok-idx.count) c.as_tables.ensures c.in_ok-idx.ensures in
+    let d = moves place T T₁ n.node c.in_ok-idx.idx c.in_ok-idx.count c.args.right v _ n.height
+    c.in_ok-move_suffix.ensures S t fresh (record { sized = s; left = w; right = z; at_left = em; at_right = en; apart = a }) in
+    absurd (no_edge (c.parted.view_is ∙ c.as_tables-parted.ensures)
+    c.args.right c.args.right 0 refl d.1 (omega arith) c.in_err-beside.ensures)
 
-pub returns : goal.returns
-returns g _ c =
+pub returns-in_err-below-clause-cuts : goal.returns-in_err-below-clause-cuts
+unfolding Cuts
+returns-in_err-below-clause-cuts g _ c = λ S t fresh s w z em en a.
     let place = g.Q.Placing.places c.args.query.now in
-    let T = tables c.args.heads.now c.args.keys.now c.args.values.now in
-    let T₁ = tables c.move_suffix.new.heads c.move_suffix.new.keys c.move_suffix.new.values in
-    let T₂ = tables c.cut_under.new.heads c.cut_under.new.keys c.cut_under.new.values in
-    let v : Stops place T c.args.node c.in_ok-idx.idx c.in_ok-idx.count = c.in_ok-idx.ensures in
-    record {
-      bound = omega (arith, v.most, c.in_ok-below.ensures.bound);
-      cuts = cut_inner place T T₁ c.args.node c.in_ok-idx.idx c.in_ok-idx.count c.args.right v _ T₂ c.in_ok-child.child c.in_ok-beside.beside
-          c.in_ok-child.ensures c.in_ok-beside.ensures c.args.height c.in_ok-below.below (omega arith) c.in_ok-move_suffix.ensures c.in_ok-below.ensures.cuts;
-    }
+    let n = c.args.node in
+    let v = subst (λ T. Stops place T n.node c.in_ok-idx.idx c.in_ok-idx.count) c.as_tables.ensures c.in_ok-idx.ensures in
+    let k = forced_inner n c.in-Internal.inner c.in-Internal.ensures in
+    absurd (not_refused place c.args.tables.now c.move_suffix.new.tables n.node c.in_ok-idx.idx c.in_ok-idx.count c.args.right v _
+    (c.parted.view_is ∙ c.as_tables-parted.ensures) c.cut_under.new.tables c.in-Internal.inner.node c.in_ok-child.child c.in_ok-beside.beside k.1 c.in_ok-child.ensures c.in_ok-beside.ensures
+    n.height k.0 c.in_ok-move_suffix.ensures c.child.result c.child.ensures.0 (c.child.ensures.1 ∙ ap (λ h. h - 1) k.2) _ c.in_err-below.ensures.cuts
+    S t fresh (record { sized = s; left = w; right = z; at_left = em; at_right = en; apart = a }))
+
+pub returns-clause-cuts : goal.returns-clause-cuts
+returns-clause-cuts g _ c =
+    let place = g.Q.Placing.places c.args.query.now in
+    let n = c.args.node in
+    let v = subst (λ T. Stops place T n.node c.in_ok-idx.idx c.in_ok-idx.count) c.as_tables.ensures c.in_ok-idx.ensures in
+    let k = forced_inner n c.in-Internal.inner c.in-Internal.ensures in
+    cut_inner place c.args.tables.now c.move_suffix.new.tables n.node c.in_ok-idx.idx c.in_ok-idx.count c.args.right v _
+    (c.parted.view_is ∙ c.as_tables-parted.ensures) c.cut_under.new.tables c.in-Internal.inner.node c.in_ok-child.child c.in_ok-beside.beside k.1 c.in_ok-child.ensures c.in_ok-beside.ensures
+    n.height k.0 c.in_ok-move_suffix.ensures c.child.result c.child.ensures.0 (c.child.ensures.1 ∙ ap (λ h. h - 1) k.2) c.in_ok-below.below c.in_ok-below.ensures.cuts

@@ -1,34 +1,63 @@
-use Rattle.std.proofs.Common.{arith}
-use Rattle.node.specs.Store.{tables}
+use Rattle.std.proofs.Common.{◌-◌, sym, ◌∙◌, subst, arith}
+use Rattle.node.specs.declared.nodes.NodeRef.{NodeRef}
+use Rattle.node.specs.Balance.{Owns}
+use Rattle.node.specs.Operations.{Lies, Strange}
+use Rattle.node.proofs.Forced.{forced_leaf, forced_inner}
 use Rattle.repair.specs.Repair.{Mends}
 use Rattle.repair.proofs.Becoming.{held_not_strange}
 use Rattle.repair.proofs.Mending.{mends_leaf, mends_none, joins_not, mends_level}
+use Rattle.repair.proofs.Tops.{ref_is}
 use Rattle.repair.proofs.border.+mend.Goals as goal
 
-pub returns-then-height-eq0 : goal.returns-then-height-eq0
-returns-then-height-eq0 g _ c =
-    mends_leaf c.args.side (tables c.args.heads.now c.args.keys.now c.args.values.now) (g.S.Supply.stock c.args.supply.now) c.args.height c.args.node (omega (arith, c.if-height-eq0.true))
+pub returns-in_default : goal.returns-in_default
+returns-in_default g _ c =
+    mends_leaf c.args.side c.args.tables.now (g.S.Supply.stock c.args.supply.now) c.args.node.height c.args.node.node (forced_leaf c.args.node c.in_default.field-0 c.in_default.ensures).0
 
 pub returns-in_err-len : goal.returns-in_err-len
 unfolding Mends
 returns-in_err-len g _ c = λ t o e.
-    absurd (held_not_strange (tables c.args.heads.now c.args.keys.now c.args.values.now) c.args.height c.args.node t o.sized o.holds e c.in_err-len.ensures)
+    let p = c.in-Internal.parent in
+    let k = forced_inner c.args.node p c.in-Internal.ensures in
+    absurd (held_not_strange c.args.tables.now c.args.node.height p.node t o.sized o.holds (e ∙ sym k.1)
+    (subst (λ T. Strange T p.node) c.as_tables.ensures c.in_err-len.ensures))
 
 pub returns-then-len-eq0 : goal.returns-then-len-eq0
 returns-then-len-eq0 g _ c =
-    mends_none c.args.side (tables c.args.heads.now c.args.keys.now c.args.values.now) (g.S.Supply.stock c.args.supply.now) c.args.height c.args.node
-    (omega (arith, c.if-height-eq0.false)) (omega (arith, c.if-len-eq0.true, c.in_ok-len.ensures.len_is))
+    let s = c.args.side in
+    let T = c.args.tables.now in
+    let S = g.S.Supply.stock c.args.supply.now in
+    let p = c.in-Internal.parent in
+    let k = forced_inner c.args.node p c.in-Internal.ensures in
+    let lies = subst (λ T. Lies T p.node c.in_ok-len.len) c.as_tables.ensures c.in_ok-len.ensures in
+    subst (λ (n : NodeRef). Mends s T T S S n.height n.node _) (sym (ref_is c.args.node p.node p.height (sym k.1) (sym k.2)))
+    (mends_none s T S p.height p.node (omega (arith, k.0, k.2)) (omega (arith, c.if-len-eq0.true, lies.len_is)))
 
 pub returns-in_err-child : goal.returns-in_err-child
 unfolding Mends
 returns-in_err-child g _ c = λ t o e.
-    absurd (joins_not c.args.side (tables c.args.heads.now c.args.keys.now c.args.values.now) (g.S.Supply.stock c.args.supply.now) c.args.height c.args.node
-    (omega (arith, c.if-height-eq0.false)) c.in_ok-len.len c.entry_beside-idx.result c.in_ok-len.ensures.len_is (omega (arith, c.if-len-eq0.false)) c.entry_beside-idx.ensures
-    (tables c.join_at.new.heads c.join_at.new.keys c.join_at.new.values) (g.S.Supply.stock c.join_at.new.supply) _ c.in_err-child.ensures t o e)
+    let T = c.args.tables.now in
+    let S = g.S.Supply.stock c.args.supply.now in
+    let p = c.in-Internal.parent in
+    let k = forced_inner c.args.node p c.in-Internal.ensures in
+    let lies = subst (λ T. Lies T p.node c.in_ok-len.len) c.as_tables.ensures c.in_ok-len.ensures in
+    absurd (joins_not c.args.side T S p.height p.node (omega (arith, k.0, k.2))
+    c.in_ok-len.len c.border_entry-idx.result lies.len_is (omega (arith, c.if-len-eq0.false)) c.border_entry-idx.ensures
+    c.join_at.new.tables (g.S.Supply.stock c.join_at.new.supply) _ c.in_err-child.ensures t (subst (λ h. Owns T S h t) (sym k.2) o) (e ∙ sym k.1))
 
 pub returns : goal.returns
 returns g _ c =
-    mends_level c.args.side (tables c.args.heads.now c.args.keys.now c.args.values.now) (g.S.Supply.stock c.args.supply.now) c.args.height c.args.node
-    (omega (arith, c.if-height-eq0.false)) c.in_ok-len.len c.entry_beside-idx.result c.in_ok-len.ensures.len_is (omega (arith, c.if-len-eq0.false)) c.entry_beside-idx.ensures
-    (tables c.join_at.new.heads c.join_at.new.keys c.join_at.new.values) (g.S.Supply.stock c.join_at.new.supply) c.in_ok-child.child c.in_ok-child.ensures
-    (tables c.mend.new.heads c.mend.new.keys c.mend.new.values) (g.S.Supply.stock c.mend.new.supply) c.mend.result c.mend.ensures
+    let s = c.args.side in
+    let T = c.args.tables.now in
+    let T₁ = c.join_at.new.tables in
+    let T₂ = c.mend.new.tables in
+    let S = g.S.Supply.stock c.args.supply.now in
+    let S₁ = g.S.Supply.stock c.join_at.new.supply in
+    let S₂ = g.S.Supply.stock c.mend.new.supply in
+    let p = c.in-Internal.parent in
+    let k = forced_inner c.args.node p c.in-Internal.ensures in
+    let lies = subst (λ T. Lies T p.node c.in_ok-len.len) c.as_tables.ensures c.in_ok-len.ensures in
+    subst (λ (n : NodeRef). Mends s T T₂ S S₂ n.height n.node c.mend.result) (sym (ref_is c.args.node p.node p.height (sym k.1) (sym k.2)))
+    (mends_level s T S p.height p.node (omega (arith, k.0, k.2))
+    c.in_ok-len.len c.border_entry-idx.result lies.len_is (omega (arith, c.if-len-eq0.false)) c.border_entry-idx.ensures
+    T₁ S₁ c.in_ok-child.child c.in_ok-child.ensures T₂ S₂ c.mend.result
+    (subst (λ (n : NodeRef). Mends s T₁ T₂ S₁ S₂ n.height n.node c.mend.result) (ref_is c.child.result c.in_ok-child.child (p.height - 1) c.child.ensures.0 c.child.ensures.1) c.mend.ensures))
