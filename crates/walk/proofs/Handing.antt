@@ -34,11 +34,10 @@ pub err_ok : {X : Type 0} (f : Fault) (x : X) → ◌≡◌ {A = Result X Fault}
 err_ok f x e = let z : ◌≡◌ {A = ℕ} 0 1 = cc in omega arith
 
 -- an entry that is read where it stands
-pub read_at : {K V : Type 0} (H : List Head) (ks : List K) (vs : List V) (p : Spot) (k : K) (v : V) (a : ℕ) → a ≡ 11 * p.node + p.idx → k ≡ get_or ks a k → v ≡ get_or vs a v → StandsAt (tables H ks vs) p (Ok (k, v))
-read_at H ks vs p k v a z q r us bs x cs sz n e =
-    let y = run_at first ks (11 * p.node) p.idx us x bs k n.keys_are e (q ∙ ap (λ i. get_or ks i k) z) in
-    let w = run_at second vs (11 * p.node) p.idx us x bs v n.values_are e (r ∙ ap (λ i. get_or vs i v) z) in
-    ap₂ (λ k v. Ok (k, v)) y w
+pub read_at : {K V : Type 0} (H : List Head) (ks : List K) (vs : List V) (p : Spot) (k : K) (v : V) → k ≡ get_or ks (11 * p.node + p.idx) k → v ≡ get_or vs (11 * p.node + p.idx) v
+    → StandsAt (tables H ks vs) p (Ok (get_or ks (11 * p.node + p.idx) k, get_or vs (11 * p.node + p.idx) v))
+read_at H ks vs p k v q r us bs x cs sz n e =
+    ap₂ (λ k v. Ok (k, v)) (sym q ∙ run_at first ks (11 * p.node) p.idx us x bs k n.keys_are e q) (sym r ∙ run_at second vs (11 * p.node) p.idx us x bs v n.values_are e r)
 
 leads_at : (s : Side) (H : List Head) (n m i : ℕ) (f : Handle) (r : Result Handle Fault) → Leads s H (spot m i n) r → n ≤ 5 → (n ≡ 0 → f ≡ handle m (onward s i))
     → ((j : ℕ) → n ≡ suc j → Chain s H j (edge H m (onward s i)) × (f ≡ end_edge s H j (edge H m (onward s i)))) → r ≡ Ok f
@@ -122,12 +121,15 @@ module _ {K V : Type 0} (s : Side) (T : Tables K V) (S : Stock) (h : ℕ) (t : T
 
 -- ---- what a step answers, by its ways
 
-module _ {K V : Type 0} (s : Side) (T : Tables K V) (S S' : Stock) (w : Walk) (e : Handle) (z : e ≡ end_of s w) where
-  at_end : (r : Result Spot Fault) → Finds s T.heads 0 e r → Finds s T.heads 0 (end_of s w) r
-  at_end r f = subst (λ e. Finds s T.heads 0 e r) z f
+module _ {K V : Type 0} (s : Side) (T : Tables K V) (H : List Head) (y : H ≡ T.heads) (S S' : Stock) (w : Walk) (e : Handle) (z : e ≡ end_of s w) where
+  at_end : (r : Result Spot Fault) → Finds s H 0 e r → Finds s T.heads 0 (end_of s w) r
+  at_end r f = subst (λ H. Finds s H 0 (end_of s w) r) y (subst (λ e. Finds s H 0 e r) z f)
 
-  from_end : (n : ℕ) (r : Result (Unit {0}) Fault) → Leaves S S' T.heads n e.node r → Leaves S S' T.heads n (end_of s w).node r
-  from_end n r f = subst (λ e. Leaves S S' T.heads n e.node r) z f
+  from_end : (n : ℕ) (r : Result (Unit {0}) Fault) → Leaves S S' H n e.node r → Leaves S S' T.heads n (end_of s w).node r
+  from_end n r f = subst (λ H. Leaves S S' H n (end_of s w).node r) y (subst (λ e. Leaves S S' H n e.node r) z f)
+
+  leading : (q : Spot) (r : Result Handle Fault) → Leads s H q r → Leads s T.heads q r
+  leading q r f = subst (λ H. Leads s H q r) y f
 
   -- a refusal that cannot be for a walk
   pub stepped_refused : (r : Result (Option (K × V)) Fault) → 0 < w.left → is_err r ≡ true → Breached r → ((h : ℕ) (t : Tree (K × V)) → Walks T S h t w → Plan s T S h t w → ⊥) → Stepped s T S S' w w r
@@ -140,33 +142,33 @@ module _ {K V : Type 0} (s : Side) (T : Tables K V) (S S' : Stock) (w : Walk) (e
   }
 
   module _ (h : ℕ) (t : Tree (K × V)) (v : Walks T S h t w) (p : Plan s T S h t w) where
-    pub spot_found : (q : Spot) → Finds s T.heads 0 e (Ok q) → q ≡ spot p.way.m p.way.i p.way.n
+    pub spot_found : (q : Spot) → Finds s H 0 e (Ok q) → q ≡ spot p.way.m p.way.i p.way.n
     spot_found q f = ok_is q (spot p.way.m p.way.i p.way.n) (found_is s T S h t w v p (Ok q) (at_end (Ok q) f))
 
-    pub no_spot : (y : Fault) → Finds s T.heads 0 e (Err y) → ⊥
+    pub no_spot : (y : Fault) → Finds s H 0 e (Err y) → ⊥
     no_spot y f = err_ok y (spot p.way.m p.way.i p.way.n) (found_is s T S h t w v p (Err y) (at_end (Err y) f))
 
-    pub no_entry : (q : Spot) (y : Fault) → Finds s T.heads 0 e (Ok q) → StandsAt T q (Err y) → ⊥
+    pub no_entry : (q : Spot) (y : Fault) → Finds s H 0 e (Ok q) → StandsAt T q (Err y) → ⊥
     no_entry q y f a = err_ok y p.x (entry_is s T S h t w v p q (Err y) (spot_found q f) a)
 
-    pub no_edge : (q : Spot) (y : Fault) → Finds s T.heads 0 e (Ok q) → Leads s T.heads q (Err y) → ⊥
-    no_edge q y f a = err_ok y p.way.f (edge_is s T S h t w v p q (Err y) (spot_found q f) a)
+    pub no_edge : (q : Spot) (y : Fault) → Finds s H 0 e (Ok q) → Leads s H q (Err y) → ⊥
+    no_edge q y f a = err_ok y p.way.f (edge_is s T S h t w v p q (Err y) (spot_found q f) (leading q (Err y) a))
 
-    pub no_leave : (q : Spot) (y : Fault) → Finds s T.heads 0 e (Ok q) → Leaves S S' T.heads q.level e.node (Err y) → ⊥
+    pub no_leave : (q : Spot) (y : Fault) → Finds s H 0 e (Ok q) → Leaves S S' H q.level e.node (Err y) → ⊥
     no_leave q y f a = err_ok y tt (left_is s T S h t w v p q S' (Err y) (spot_found q f) (from_end q.level (Err y) a))
 
-    hands_all : (q : Spot) (x : K × V) (f : Handle) → Finds s T.heads 0 e (Ok q) → StandsAt T q (Ok x) → Leads s T.heads q (Ok f) → Leaves S S' T.heads q.level e.node (Ok tt)
+    hands_all : (q : Spot) (x : K × V) (f : Handle) → Finds s H 0 e (Ok q) → StandsAt T q (Ok x) → Leads s H q (Ok f) → Leaves S S' H q.level e.node (Ok tt)
         → Hands s T S S' h t (moved s f w) (Ok (Some x))
     hands_all q x f a b c d =
         let is = spot_found q a in
         let x-is = ok_is x p.x (entry_is s T S h t w v p q (Ok x) is b) in
-        let f-is = ok_is f p.way.f (edge_is s T S h t w v p q (Ok f) is c) in
+        let f-is = ok_is f p.way.f (edge_is s T S h t w v p q (Ok f) is (leading q (Ok f) c)) in
         subst (λ y. Hands s T S S' h t (moved s f w) (Ok (Some y))) (sym x-is)
         (subst (λ g. Hands s T S S' h t (moved s g w) (Ok (Some p.x))) (sym f-is)
         (hands_on s T S h t w v p S' (subst (λ q. Leaves S S' T.heads q.level (end_of s w).node (Ok tt)) is (from_end q.level (Ok tt) d)).given))
 
   pub stepped_done : (w' : Walk) (q : Spot) (x : K × V) (f : Handle) → 0 < w.left → w' ≡ moved s f w
-      → Finds s T.heads 0 e (Ok q) → StandsAt T q (Ok x) → Leads s T.heads q (Ok f) → Leaves S S' T.heads q.level e.node (Ok tt) → Stepped s T S S' w w' (Ok (Some x))
+      → Finds s H 0 e (Ok q) → StandsAt T q (Ok x) → Leads s H q (Ok f) → Leaves S S' H q.level e.node (Ok tt) → Stepped s T S S' w w' (Ok (Some x))
   stepped_done w' q x f l o a b c d = record {
     fault = tt;
     none_left = λ y. absurd (omega arith);

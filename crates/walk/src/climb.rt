@@ -6,13 +6,13 @@ ghost use Rattle.walk.specs.Leaving.{Leaves, Clears};
 ghost use Rattle.walk.specs.Climbs.{Breached, beside, Edged, Finds, Leads, Tops};
 
 use node::count::MAX_HEIGHT;
-use node::ends::{Handle, Side, first_leaf_edge, last_leaf_edge};
+use node::ends::{Handle, Side, leaf_edge};
 use node::head::{CAPACITY, Head, NULL};
 use node::nodes::NodeRef;
 use supply::{Fault, Supply};
 
 /// An entry: its node, its index there, and how far above the leaves it stands.
-#[derive(Clone, Copy)]
+#[derive(Clone, Copy, PartialEq, Eq, Debug)]
 pub struct Spot {
     pub node: u16,
     pub idx: u16,
@@ -85,21 +85,10 @@ pub(crate) fn next_edge(heads: &[Head], side: Side, spot: Spot) -> Result<Handle
         });
     }
     let under = NodeRef {
-        node: edge_of(&heads[spot.node as usize].edges, idx as usize),
+        node: heads[spot.node as usize].edges[idx as usize],
         height: spot.level - 1,
     };
-    match side {
-        Side::First => first_leaf_edge(heads, under).or(Err(Fault::Breach)),
-        Side::Last => last_leaf_edge(heads, under).or(Err(Fault::Breach)),
-    }
-}
-
-/// The edge at `index`.
-fn edge_of(edges: &[u16; 12], index: usize) -> u16
-    requires { index < 12 }
-    ensures { result ≡ slice_index edges.now index }
-{
-    edges[index]
+    leaf_edge(heads, side, under).or(Err(Fault::Breach))
 }
 
 /// Gives back `count` nodes: `node`, its parent and so on.
