@@ -112,27 +112,27 @@ module _ {K V : Type 0} (T : Tables K V) where
       let d = c.whole h v.low (omega (arith, v.sized.most)) tops x.lie (λ a. omega (arith, x.gone a, v.owned a)) in
       (d.0, balanced_as S S' (λ a. times a (ups T.heads (suc h) m)) (λ _. 0) (λ a. occurs a h t) (λ _. 0) (λ a. omega (arith, x.gone a)) d.1)
 
-  pub closes_done : (H : List Head) → H ≡ T.heads → (S S₁ S₂ : Stock) (w w₁ : Walk) (d : ℕ) → Emptied T S S₁ w w₁ (Ok d) → Clears S₁ S₂ H w₁.front.node (Ok tt) → w.left ≤ 11 * length H → Closes T S S₂ w (Ok d)
-  closes_done H y S S₁ S₂ w w₁ d e c l = record {
+  pub closes_done : {U : Tables K V} → U ≡ T → (S S₁ S₂ : Stock) (w w₁ : Walk) (d : ℕ) → Emptied T S S₁ w w₁ (Ok d) → Clears S₁ S₂ U.heads w₁.front.node (Ok tt) → w.left ≤ 11 * length U.heads → Closes T S S₂ w (Ok d)
+  closes_done {U = U} y S S₁ S₂ w w₁ d e c l = record {
     fault = tt;
     none = λ z.
         let a = e.none_left (ap (λ u. u.left) z) in
         (a.0, (c.none (ap (λ u. u.front.node) (a.1 ∙ z))).1 ∙ a.2);
     all = e.all;
-    few = omega (arith, e.all, ap length y);
+    few = omega (arith, e.all, ap (λ (T : Tables K V). length T.heads) y);
     held = λ h t v.
         let a = e.held h t v in
-        let b = cleared S₁ S₂ h a.1.0 w₁ (Ok tt) a.1.1 a.1.2 (subst (λ H. Clears S₁ S₂ H w₁.front.node (Ok tt)) y c) in
+        let b = cleared S₁ S₂ h a.1.0 w₁ (Ok tt) a.1.1 a.1.2 (subst (λ (T : Tables K V). Clears S₁ S₂ T.heads w₁.front.node (Ok tt)) y c) in
         (a.0, balanced_both S S₁ S₂ (λ x. occurs x h t) (λ x. occurs x h a.1.0) (λ _. 0) a.1.3 b.1);
   }
 
-  pub closes_broken : (H : List Head) → H ≡ T.heads → (S S₁ S₂ : Stock) (w w₁ : Walk) (d : ℕ) (f : Fault) (r : Result ℕ Fault) → is_err r ≡ true → Breached r → Emptied T S S₁ w w₁ (Ok d) → Clears S₁ S₂ H w₁.front.node (Err f) → Closes T S S₂ w r
-  closes_broken H y S S₁ S₂ w w₁ d f r q g e c = record {
+  pub closes_broken : {U : Tables K V} → U ≡ T → (S S₁ S₂ : Stock) (w w₁ : Walk) (d : ℕ) (f : Fault) (r : Result ℕ Fault) → is_err r ≡ true → Breached r → Emptied T S S₁ w w₁ (Ok d) → Clears S₁ S₂ U.heads w₁.front.node (Err f) → Closes T S S₂ w r
+  closes_broken {U = U} y S S₁ S₂ w w₁ d f r q g e c = record {
     fault = g;
     none = λ z. let a = e.none_left (ap (λ u. u.left) z) in absurd (err_ok f tt (c.none (ap (λ u. u.front.node) (a.1 ∙ z))).0);
     all = IfOk-from_err r _ q;
     few = IfOk-from_err r _ q;
-    held = λ h t v. let a = e.held h t v in absurd (err_ok f tt (cleared S₁ S₂ h a.1.0 w₁ (Err f) a.1.1 a.1.2 (subst (λ H. Clears S₁ S₂ H w₁.front.node (Err f)) y c)).0);
+    held = λ h t v. let a = e.held h t v in absurd (err_ok f tt (cleared S₁ S₂ h a.1.0 w₁ (Err f) a.1.1 a.1.2 (subst (λ (T : Tables K V). Clears S₁ S₂ T.heads w₁.front.node (Err f)) y c)).0);
   }
 
   -- ---- as many entries as nodes can hold

@@ -5,9 +5,9 @@ ghost use Rattle.node.specs.Store.{head_in};
 ghost use Rattle.walk.specs.Leaving.{Leaves, Clears};
 ghost use Rattle.walk.specs.Climbs.{Breached, beside, Edged, Finds, Leads, Tops};
 
-use node::count::MAX_HEIGHT;
+use node::count::{MAX_HEIGHT, len_at};
 use node::ends::{Handle, Side, leaf_edge};
-use node::head::{CAPACITY, Head, NULL};
+use node::head::{Head, NULL};
 use node::nodes::NodeRef;
 use supply::{Fault, Supply};
 
@@ -23,14 +23,10 @@ pub struct Spot {
 fn edged(heads: &[Head], at: Handle) -> Result<u16, Fault>
     ensures { MatchResult result (λ n. Edged heads.now at × (n ≡ (head_in heads.now at.node).len)) (λ f. (f ≡ Fault.Breach) × (Edged heads.now at → ⊥)) }
 {
-    if at.node as usize >= heads.len() {
-        return Err(Fault::Breach);
+    match len_at(heads, at.node) {
+        Ok(len) if at.idx as usize <= len => Ok(len as u16),
+        _ => Err(Fault::Breach),
     }
-    let len = heads[at.node as usize].len;
-    if len as usize > CAPACITY || at.idx > len {
-        return Err(Fault::Breach);
-    }
-    Ok(len)
 }
 
 /// The index of the entry beside an edge, on the way from this side.
@@ -38,8 +34,8 @@ fn entry_beside(side: Side, len: u16, idx: u16) -> Option<u16>
     ensures { result ≡ beside side len idx }
 {
     match side {
-        Side::First => { if idx < len { Some(idx) } else { None } }
-        Side::Last => { if 0 < idx { Some(idx - 1) } else { None } }
+        Side::First => (idx < len).then_some(idx),
+        Side::Last => idx.checked_sub(1),
     }
 }
 

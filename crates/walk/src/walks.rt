@@ -40,10 +40,7 @@ fn fit(left: usize, nodes: usize) -> bool
     ensures held { nodes ≤ 4096 → left ≤ 11 * nodes → result ≡ true }
     ensures few { result ≡ true → left ≤ 11 * nodes }
 {
-    if left == 0 {
-        return true;
-    }
-    nodes <= MOST && left <= CAPACITY * nodes
+    left == 0 || (nodes <= MOST && left <= CAPACITY * nodes)
 }
 
 impl Walk {

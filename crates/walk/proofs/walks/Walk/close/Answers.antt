@@ -1,5 +1,3 @@
-use Rattle.std.proofs.Common.{ap}
-use Rattle.node.specs.Store.{Tables}
 use Rattle.walk.proofs.Climbing.{breached_by}
 use Rattle.walk.proofs.Closing.{closes_many, closes_broken, closes_done}
 use Rattle.walk.proofs.walks.Walk.close.Goals as goal
@@ -10,11 +8,11 @@ returns-then-not-fit g c =
 
 pub returns-in_err-clear : goal.returns-in_err-clear
 returns-in_err-clear g c =
-    closes_broken c.args.tables.now _ (ap (λ (T : Tables _ _). T.heads) c.tables.view_is) _ _ _ c.args.self c.empty.new.self c.in_ok-dropped.dropped c.in_err-clear.field-0.0 c.from_residual-in_err-clear.result c.from_residual-in_err-clear.ensures.0
+    closes_broken c.args.tables.now c.tables.view_is _ _ _ c.args.self c.empty.new.self c.in_ok-dropped.dropped c.in_err-clear.field-0.0 c.from_residual-in_err-clear.result c.from_residual-in_err-clear.ensures.0
     (breached_by c.from_residual-in_err-clear.result c.in_err-clear.field-0.0 c.from_residual-in_err-clear.ensures.1 c.in_err-clear.ensures.fault)
     c.in_ok-dropped.ensures c.in_err-clear.ensures
 
 pub returns : goal.returns
 returns g c =
-    closes_done c.args.tables.now _ (ap (λ (T : Tables _ _). T.heads) c.tables.view_is) _ _ _ c.args.self c.empty.new.self c.in_ok-dropped.dropped
+    closes_done c.args.tables.now c.tables.view_is _ _ _ c.args.self c.empty.new.self c.in_ok-dropped.dropped
     c.in_ok-dropped.ensures c.in_ok-clear.ensures (c.fit.ensures.few c.if-not-fit.false)
