@@ -1,6 +1,5 @@
 -- Steps until none is left, and the nodes that remain. Assumes nothing.
 use Rattle.std.proofs.Common.{◌≡◌, ℕ, zero, suc, ◌+◌, ◌*◌, ◌<◌, ◌≤◌, Bool, true, false, List, [], ◌∷◌, ◌++◌, map, length, is_err, Some, None, Ok, Err, All, Option, Result, sym, refl, ap, ◌∙◌, subst, ⊎_elim, arith, length-append}
-use Rattle.std.proofs.lemmas.Option.{none-some}
 use lib.ListN.{length-map}
 use Rattle.std.proofs.lemmas.List.{nil_from_length, get_or_past}
 use Rattle.std.proofs.lemmas.Result.{IfOk-from_err}
@@ -22,7 +21,7 @@ use Rattle.walk.specs.declared.walks.Walk.{Walk}
 use Rattle.walk.specs.Climbs.{Breached, ups, Tops}
 use Rattle.walk.specs.Leaving.{Clears}
 use Rattle.walk.specs.Steps.{step}
-use Rattle.walk.specs.Walks.{no_walk, Walks, Stepped, Opens, Emptied, Closes, Releases}
+use Rattle.walk.specs.Walks.{no_walk, Walks, Opens, Emptied, Closes, Releases}
 use Rattle.walk.specs.Window.{Bounds, bounds, Shown}
 use Rattle.walk.proofs.Handing.{ok_is, err_ok}
 use Rattle.walk.proofs.Stepping.{step_ends}
@@ -35,55 +34,6 @@ use Rattle.walk.proofs.Windows.{among_all, shown_pane, shown_inner, shown_kids, 
 pub record Run {K V : Type 0} (T : Tables K V) (S S' : Stock) (w w' : Walk) : Type 0 where
   pub same : w.left ≡ 0 → (w' ≡ w) × (S' ≡ S)
   pub held : (h : ℕ) (t : Tree (K × V)) → Walks T S h t w → (t' : Tree (K × V)) × Walks T S' h t' w' × Balanced S S' (λ x. occurs x h t) (λ x. occurs x h t')
-
-module _ {K V : Type 0} (T : Tables K V) (S S₁ S₂ : Stock) (w w₁ w₂ : Walk) (r : Run T S S₁ w w₁) where
-  -- a step that does not answer none found something left
-  was_left : (o : Result (Option (K × V)) Fault) → (o ≡ Ok None → ⊥) → Stepped First T S₁ S₂ w₁ w₂ o → 0 < w₁.left
-  was_left o n s = ⊎_elim (λ (p : 0 < w₁.left). p) (λ (p : w₁.left ≤ 0). absurd (n (s.none_left (omega arith)).0)) (cases_lt 0 w₁.left)
-
-  left_more : (o : Option (K × V)) (x : K × V) → o ≡ Some x → Stepped First T S₁ S₂ w₁ w₂ (Ok o) → 0 < w₁.left
-  left_more o x q s = was_left (Ok o) (λ e. none-some x (sym (ok_is o None e) ∙ q)) s
-
-  pub run_smaller : (o : Option (K × V)) (x : K × V) → o ≡ Some x → Stepped First T S₁ S₂ w₁ w₂ (Ok o) → w₂.left < w₁.left
-  run_smaller o x q s = omega (arith, s.one_less (left_more o x q s))
-
-  pub run_more : (o : Option (K × V)) (x : K × V) → o ≡ Some x → Stepped First T S₁ S₂ w₁ w₂ (Ok o) → Run T S S₂ w w₂
-  run_more o x q s =
-      let l = left_more o x q s in
-      record {
-        same = λ z. absurd (omega (arith, l, ap (λ u. u.left) (r.same z).0));
-        held = λ h t v.
-            let a = r.held h t v in
-            let b = s.hands h a.0 a.1 l in
-            (b.rest, b.walks, balanced_both S S₁ S₂ (λ x. occurs x h t) (λ x. occurs x h a.0) (λ x. occurs x h b.rest) a.2 b.balanced);
-      }
-
-  pub run_broken : (y : Fault) (e : Result ℕ Fault) → is_err e ≡ true → Breached e → Stepped First T S₁ S₂ w₁ w₂ (Err y) → Emptied T S S₂ w w₂ e
-  run_broken y e q g s =
-      let l = was_left (Err y) (err_ok y None) s in
-      record {
-        fault = g;
-        none_left = λ z. absurd (omega (arith, l, ap (λ u. u.left) (r.same z).0));
-        all = IfOk-from_err e _ q;
-        held = λ h t v. let a = r.held h t v in let b = s.hands h a.0 a.1 l in absurd (err_ok y (Some b.entry) b.answer);
-      }
-
-  pub run_out : (o : Option (K × V)) → o ≡ None → Stepped First T S₁ S₂ w₁ w₂ (Ok o) → Emptied T S S₂ w w₂ (Ok w.left)
-  run_out o q s = record {
-    fault = tt;
-    none_left = λ z.
-        let a = r.same z in
-        let b = s.none_left (ap (λ u. u.left) a.0 ∙ z) in
-        (ap (λ n. Ok n) z, b.1 ∙ a.0, b.2 ∙ a.1);
-    all = refl;
-    held = λ h t v.
-        let a = r.held h t v in
-        let more : 0 < w₁.left → ⊥ = λ l. let b = s.hands h a.0 a.1 l in none-some b.entry (sym q ∙ ok_is o (Some b.entry) b.answer) in
-        let z : w₁.left ≡ 0 = ⊎_elim (λ (p : 0 < w₁.left). absurd (more p)) (λ (p : w₁.left ≤ 0). omega arith) (cases_lt 0 w₁.left) in
-        let b = s.none_left z in
-        let walks = subst (λ u. Walks T S₂ h a.0 u) (sym b.1) (subst (λ u. Walks T u h a.0 w₁) (sym b.2) a.1) in
-        (ap (λ n. Ok n) v.counted, (a.0, walks, ap (λ u. u.left) b.1 ∙ z, subst (λ u. Balanced S u (λ x. occurs x h t) (λ x. occurs x h a.0)) (sym b.2) a.2));
-  }
 
 -- ---- what remains when nothing is left
 

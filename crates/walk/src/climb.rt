@@ -1,6 +1,6 @@
 //! The way from the edge of a leaf up to the next entry, and down again.
 
-ghost use Rattle.std.specs.Prelude.{◌≡◌, ℕ, ◌+◌, ◌<◌, ◌≤◌, length, IfOk, Ok, MatchResult, slice_index};
+ghost use Rattle.std.specs.Prelude.{◌≡◌, ℕ, ◌+◌, ◌<◌, ◌≤◌, length, IfOk, Ok, MatchResult};
 ghost use Rattle.node.specs.Store.{head_in};
 ghost use Rattle.walk.specs.Leaving.{Leaves, Clears};
 ghost use Rattle.walk.specs.Climbs.{Breached, beside, Edged, Finds, Leads, Tops};
