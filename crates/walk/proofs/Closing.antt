@@ -21,7 +21,7 @@ use Rattle.walk.specs.declared.walks.Walk.{Walk}
 use Rattle.walk.specs.Climbs.{Breached, ups, Tops}
 use Rattle.walk.specs.Leaving.{Clears}
 use Rattle.walk.specs.Steps.{step}
-use Rattle.walk.specs.Walks.{no_walk, Walks, Stepped, Opens, Emptied, Closes, Releases}
+use Rattle.walk.specs.Walks.{no_walk, Walks, Opens, Emptied, Closes, Releases}
 use Rattle.walk.specs.Window.{Bounds, bounds, Shown}
 use Rattle.walk.proofs.Handing.{ok_is, err_ok}
 use Rattle.walk.proofs.Stepping.{step_ends}
@@ -30,22 +30,10 @@ use Rattle.walk.proofs.Windows.{among_all, shown_pane, shown_inner, shown_kids, 
 
 -- ---- after some steps
 
--- w' is what is left of w after d steps at the front
-pub record Run {K V : Type 0} (T : Tables K V) (S S' : Stock) (w w' : Walk) (d : ℕ) : Type 0 where
-  pub count_is : d + w'.left ≡ w.left
+-- w' is what is left of w after some steps at the front
+pub record Run {K V : Type 0} (T : Tables K V) (S S' : Stock) (w w' : Walk) : Type 0 where
   pub same : w.left ≡ 0 → (w' ≡ w) × (S' ≡ S)
   pub held : (h : ℕ) (t : Tree (K × V)) → Walks T S h t w → (t' : Tree (K × V)) × Walks T S' h t' w' × Balanced S S' (λ x. occurs x h t) (λ x. occurs x h t')
-
-module _ {K V : Type 0} (T : Tables K V) where
-  pub run_more : (S S₁ S₂ : Stock) (w w₁ w₂ : Walk) (d : ℕ) (o : Option (K × V)) → Run T S S₁ w w₁ d → 0 < w₁.left → Stepped First T S₁ S₂ w₁ w₂ (Ok o) → Run T S S₂ w w₂ (d + 1)
-  run_more S S₁ S₂ w w₁ w₂ d o r l s = record {
-    count_is = omega (arith, s.one_less l, r.count_is);
-    same = λ z. absurd (omega (arith, r.count_is));
-    held = λ h t v.
-        let a = r.held h t v in
-        let b = s.hands h a.0 a.1 l in
-        (b.rest, b.walks, balanced_both S S₁ S₂ (λ x. occurs x h t) (λ x. occurs x h a.0) (λ x. occurs x h b.rest) a.2 b.balanced);
-  }
 
 -- ---- what remains when nothing is left
 
@@ -74,27 +62,27 @@ module _ {K V : Type 0} (T : Tables K V) where
       let d = c.whole h v.low (omega (arith, v.sized.most)) tops x.lie (λ a. omega (arith, x.gone a, v.owned a)) in
       (d.0, balanced_as S S' (λ a. times a (ups T.heads (suc h) m)) (λ _. 0) (λ a. occurs a h t) (λ _. 0) (λ a. omega (arith, x.gone a)) d.1)
 
-  pub closes_done : (S S₁ S₂ : Stock) (w w₁ : Walk) (d : ℕ) → Emptied T S S₁ w w₁ (Ok d) → Clears S₁ S₂ T.heads w₁.front.node (Ok tt) → w.left ≤ 11 * length T.heads → Closes T S S₂ w (Ok d)
-  closes_done S S₁ S₂ w w₁ d e c l = record {
+  pub closes_done : {U : Tables K V} → U ≡ T → (S S₁ S₂ : Stock) (w w₁ : Walk) (d : ℕ) → Emptied T S S₁ w w₁ (Ok d) → Clears S₁ S₂ U.heads w₁.front.node (Ok tt) → w.left ≤ 11 * length U.heads → Closes T S S₂ w (Ok d)
+  closes_done {U = U} y S S₁ S₂ w w₁ d e c l = record {
     fault = tt;
     none = λ z.
         let a = e.none_left (ap (λ u. u.left) z) in
         (a.0, (c.none (ap (λ u. u.front.node) (a.1 ∙ z))).1 ∙ a.2);
     all = e.all;
-    few = omega (arith, e.all);
+    few = omega (arith, e.all, ap (λ (T : Tables K V). length T.heads) y);
     held = λ h t v.
         let a = e.held h t v in
-        let b = cleared S₁ S₂ h a.1.0 w₁ (Ok tt) a.1.1 a.1.2 c in
+        let b = cleared S₁ S₂ h a.1.0 w₁ (Ok tt) a.1.1 a.1.2 (subst (λ (T : Tables K V). Clears S₁ S₂ T.heads w₁.front.node (Ok tt)) y c) in
         (a.0, balanced_both S S₁ S₂ (λ x. occurs x h t) (λ x. occurs x h a.1.0) (λ _. 0) a.1.3 b.1);
   }
 
-  pub closes_broken : (S S₁ S₂ : Stock) (w w₁ : Walk) (d : ℕ) (y : Fault) (r : Result ℕ Fault) → is_err r ≡ true → Breached r → Emptied T S S₁ w w₁ (Ok d) → Clears S₁ S₂ T.heads w₁.front.node (Err y) → Closes T S S₂ w r
-  closes_broken S S₁ S₂ w w₁ d y r q g e c = record {
+  pub closes_broken : {U : Tables K V} → U ≡ T → (S S₁ S₂ : Stock) (w w₁ : Walk) (d : ℕ) (f : Fault) (r : Result ℕ Fault) → is_err r ≡ true → Breached r → Emptied T S S₁ w w₁ (Ok d) → Clears S₁ S₂ U.heads w₁.front.node (Err f) → Closes T S S₂ w r
+  closes_broken {U = U} y S S₁ S₂ w w₁ d f r q g e c = record {
     fault = g;
-    none = λ z. let a = e.none_left (ap (λ u. u.left) z) in absurd (err_ok y tt (c.none (ap (λ u. u.front.node) (a.1 ∙ z))).0);
+    none = λ z. let a = e.none_left (ap (λ u. u.left) z) in absurd (err_ok f tt (c.none (ap (λ u. u.front.node) (a.1 ∙ z))).0);
     all = IfOk-from_err r _ q;
     few = IfOk-from_err r _ q;
-    held = λ h t v. let a = e.held h t v in absurd (err_ok y tt (cleared S₁ S₂ h a.1.0 w₁ (Err y) a.1.1 a.1.2 c).0);
+    held = λ h t v. let a = e.held h t v in absurd (err_ok f tt (cleared S₁ S₂ h a.1.0 w₁ (Err f) a.1.1 a.1.2 (subst (λ (T : Tables K V). Clears S₁ S₂ T.heads w₁.front.node (Err f)) y c)).0);
   }
 
   -- ---- as many entries as nodes can hold

@@ -1,8 +1,9 @@
 -- What a step of a walk comes to. Assumes nothing.
-use Rattle.std.proofs.Common.{◌≡◌, ℕ, zero, suc, ◌+◌, ◌-◌, ◌*◌, ◌<◌, ◌≤◌, true, List, [], length, get_or, is_err, Some, None, Ok, Err, Option, Result, sym, refl, ap, ◌∙◌, subst, ap₂, arith}
+use Rattle.std.proofs.Common.{◌≡◌, ℕ, zero, suc, ◌+◌, ◌-◌, ◌*◌, ◌<◌, ◌≤◌, true, List, [], length, get_or, is_err, IsErrAnd, Some, None, Ok, Err, Option, Result, sym, refl, ap, ◌∙◌, subst, ap₂, arith}
 use Rattle.std.proofs.lemmas.Result.{IfOk-from_err}
 use Rattle.std.proofs.lemmas.Bool.{false≢true}
 use Rattle.supply.specs.declared.faults.Fault.{Fault}
+use Rattle.supply.specs.declared.faults.Fault.TheVariants.{Breach}
 use Rattle.supply.specs.Stocks.{Stock}
 use Rattle.node.specs.declared.head.Head.{Head}
 use Rattle.node.specs.declared.ends.Handle.{Handle}
@@ -18,11 +19,12 @@ use Rattle.node.proofs.Balances.{balanced_as}
 use Rattle.node.proofs.Runs.{run_at}
 use Rattle.walk.specs.declared.climb.Spot.{Spot}
 use Rattle.walk.specs.declared.walks.Walk.{Walk}
-use Rattle.walk.specs.Climbs.{Breached, handle, spot, onward, ups, Finds, Leads}
+use Rattle.walk.specs.Climbs.{handle, spot, onward, ups, Finds, Leads}
 use Rattle.walk.specs.Leaving.{Leaves}
 use Rattle.walk.specs.Steps.{step}
 use Rattle.walk.specs.Walks.{end_of, moved, Walks, Hands, Stepped, StandsAt}
 use Rattle.walk.specs.Window.{bounds, bound, put, Shown}
+use Rattle.walk.proofs.Climbing.{breached_by}
 use Rattle.walk.proofs.Stepping.{length_cons, step_takes, step_stops}
 use Rattle.walk.proofs.Walking.{Goes, goes}
 use Rattle.walk.proofs.Windows.{shown_fanned}
@@ -34,11 +36,10 @@ pub err_ok : {X : Type 0} (f : Fault) (x : X) → ◌≡◌ {A = Result X Fault}
 err_ok f x e = let z : ◌≡◌ {A = ℕ} 0 1 = cc in omega arith
 
 -- an entry that is read where it stands
-pub read_at : {K V : Type 0} (H : List Head) (ks : List K) (vs : List V) (p : Spot) (k : K) (v : V) (a : ℕ) → a ≡ 11 * p.node + p.idx → k ≡ get_or ks a k → v ≡ get_or vs a v → StandsAt (tables H ks vs) p (Ok (k, v))
-read_at H ks vs p k v a z q r us bs x cs sz n e =
-    let y = run_at first ks (11 * p.node) p.idx us x bs k n.keys_are e (q ∙ ap (λ i. get_or ks i k) z) in
-    let w = run_at second vs (11 * p.node) p.idx us x bs v n.values_are e (r ∙ ap (λ i. get_or vs i v) z) in
-    ap₂ (λ k v. Ok (k, v)) y w
+pub read_at : {K V : Type 0} (H : List Head) (ks : List K) (vs : List V) (p : Spot) (k : K) (v : V) → k ≡ get_or ks (11 * p.node + p.idx) k → v ≡ get_or vs (11 * p.node + p.idx) v
+    → StandsAt (tables H ks vs) p (Ok (get_or ks (11 * p.node + p.idx) k, get_or vs (11 * p.node + p.idx) v))
+read_at H ks vs p k v q r us bs x cs sz n e =
+    ap₂ (λ k v. Ok (k, v)) (sym q ∙ run_at first ks (11 * p.node) p.idx us x bs k n.keys_are e q) (sym r ∙ run_at second vs (11 * p.node) p.idx us x bs v n.values_are e r)
 
 leads_at : (s : Side) (H : List Head) (n m i : ℕ) (f : Handle) (r : Result Handle Fault) → Leads s H (spot m i n) r → n ≤ 5 → (n ≡ 0 → f ≡ handle m (onward s i))
     → ((j : ℕ) → n ≡ suc j → Chain s H j (edge H m (onward s i)) × (f ≡ end_edge s H j (edge H m (onward s i)))) → r ≡ Ok f
@@ -122,51 +123,57 @@ module _ {K V : Type 0} (s : Side) (T : Tables K V) (S : Stock) (h : ℕ) (t : T
 
 -- ---- what a step answers, by its ways
 
-module _ {K V : Type 0} (s : Side) (T : Tables K V) (S S' : Stock) (w : Walk) (e : Handle) (z : e ≡ end_of s w) where
-  at_end : (r : Result Spot Fault) → Finds s T.heads 0 e r → Finds s T.heads 0 (end_of s w) r
-  at_end r f = subst (λ e. Finds s T.heads 0 e r) z f
+-- the heads are those of the same tables under another name
+module _ {K V : Type 0} (s : Side) {T U : Tables K V} (y : U ≡ T) (S S' : Stock) (w : Walk) (e : Handle) (z : e ≡ end_of s w) where
+  at_end : (r : Result Spot Fault) → Finds s U.heads 0 e r → Finds s T.heads 0 (end_of s w) r
+  at_end r f = subst (λ (T : Tables K V). Finds s T.heads 0 (end_of s w) r) y (subst (λ e. Finds s U.heads 0 e r) z f)
 
-  from_end : (n : ℕ) (r : Result (Unit {0}) Fault) → Leaves S S' T.heads n e.node r → Leaves S S' T.heads n (end_of s w).node r
-  from_end n r f = subst (λ e. Leaves S S' T.heads n e.node r) z f
+  from_end : (n : ℕ) (r : Result (Unit {0}) Fault) → Leaves S S' U.heads n e.node r → Leaves S S' T.heads n (end_of s w).node r
+  from_end n r f = subst (λ (T : Tables K V). Leaves S S' T.heads n (end_of s w).node r) y (subst (λ e. Leaves S S' U.heads n e.node r) z f)
 
-  -- a refusal that cannot be for a walk
-  pub stepped_refused : (r : Result (Option (K × V)) Fault) → 0 < w.left → is_err r ≡ true → Breached r → ((h : ℕ) (t : Tree (K × V)) → Walks T S h t w → Plan s T S h t w → ⊥) → Stepped s T S S' w w r
-  stepped_refused r l q g f = record {
-    fault = g;
-    none_left = λ z. absurd (omega arith);
-    one_less = λ _. IfOk-from_err r _ q;
-    kept = λ _. refl;
-    hands = λ h t v o. absurd (f h t v (plan s T S h t w v o));
-  }
+  leading : (q : Spot) (r : Result Handle Fault) → Leads s U.heads q r → Leads s T.heads q r
+  leading q r f = subst (λ (T : Tables K V). Leads s T.heads q r) y f
 
   module _ (h : ℕ) (t : Tree (K × V)) (v : Walks T S h t w) (p : Plan s T S h t w) where
-    pub spot_found : (q : Spot) → Finds s T.heads 0 e (Ok q) → q ≡ spot p.way.m p.way.i p.way.n
+    spot_found : (q : Spot) → Finds s U.heads 0 e (Ok q) → q ≡ spot p.way.m p.way.i p.way.n
     spot_found q f = ok_is q (spot p.way.m p.way.i p.way.n) (found_is s T S h t w v p (Ok q) (at_end (Ok q) f))
 
-    pub no_spot : (y : Fault) → Finds s T.heads 0 e (Err y) → ⊥
-    no_spot y f = err_ok y (spot p.way.m p.way.i p.way.n) (found_is s T S h t w v p (Err y) (at_end (Err y) f))
-
-    pub no_entry : (q : Spot) (y : Fault) → Finds s T.heads 0 e (Ok q) → StandsAt T q (Err y) → ⊥
-    no_entry q y f a = err_ok y p.x (entry_is s T S h t w v p q (Err y) (spot_found q f) a)
-
-    pub no_edge : (q : Spot) (y : Fault) → Finds s T.heads 0 e (Ok q) → Leads s T.heads q (Err y) → ⊥
-    no_edge q y f a = err_ok y p.way.f (edge_is s T S h t w v p q (Err y) (spot_found q f) a)
-
-    pub no_leave : (q : Spot) (y : Fault) → Finds s T.heads 0 e (Ok q) → Leaves S S' T.heads q.level e.node (Err y) → ⊥
-    no_leave q y f a = err_ok y tt (left_is s T S h t w v p q S' (Err y) (spot_found q f) (from_end q.level (Err y) a))
-
-    hands_all : (q : Spot) (x : K × V) (f : Handle) → Finds s T.heads 0 e (Ok q) → StandsAt T q (Ok x) → Leads s T.heads q (Ok f) → Leaves S S' T.heads q.level e.node (Ok tt)
+    hands_all : (q : Spot) (x : K × V) (f : Handle) → Finds s U.heads 0 e (Ok q) → StandsAt T q (Ok x) → Leads s U.heads q (Ok f) → Leaves S S' U.heads q.level e.node (Ok tt)
         → Hands s T S S' h t (moved s f w) (Ok (Some x))
     hands_all q x f a b c d =
         let is = spot_found q a in
         let x-is = ok_is x p.x (entry_is s T S h t w v p q (Ok x) is b) in
-        let f-is = ok_is f p.way.f (edge_is s T S h t w v p q (Ok f) is c) in
+        let f-is = ok_is f p.way.f (edge_is s T S h t w v p q (Ok f) is (leading q (Ok f) c)) in
         subst (λ y. Hands s T S S' h t (moved s f w) (Ok (Some y))) (sym x-is)
         (subst (λ g. Hands s T S S' h t (moved s g w) (Ok (Some p.x))) (sym f-is)
         (hands_on s T S h t w v p S' (subst (λ q. Leaves S S' T.heads q.level (end_of s w).node (Ok tt)) is (from_end q.level (Ok tt) d)).given))
 
+  -- a refusal that cannot be for a walk
+  module _ (r : Result (Option (K × V)) Fault) (f : Fault) (l : 0 < w.left) (c : is_err r ≡ true × IsErrAnd r (λ z. z ≡ f)) (g : f ≡ Breach) where
+    refused : ((h : ℕ) (t : Tree (K × V)) → Walks T S h t w → Plan s T S h t w → ⊥) → Stepped s T S S' w w r
+    refused a = record {
+      fault = breached_by r f c.1 g;
+      none_left = λ z. absurd (omega arith);
+      one_less = λ _. IfOk-from_err r _ c.0;
+      kept = λ _. refl;
+      hands = λ h t v o. absurd (a h t v (plan s T S h t w v o));
+    }
+
+    pub refused_spot : Finds s U.heads 0 e (Err f) → Stepped s T S S' w w r
+    refused_spot a = refused (λ h t v p. err_ok f (spot p.way.m p.way.i p.way.n) (found_is s T S h t w v p (Err f) (at_end (Err f) a)))
+
+    module _ (q : Spot) (x : Finds s U.heads 0 e (Ok q)) where
+      pub refused_entry : StandsAt T q (Err f) → Stepped s T S S' w w r
+      refused_entry a = refused (λ h t v p. err_ok f p.x (entry_is s T S h t w v p q (Err f) (spot_found h t v p q x) a))
+
+      pub refused_edge : Leads s U.heads q (Err f) → Stepped s T S S' w w r
+      refused_edge a = refused (λ h t v p. err_ok f p.way.f (edge_is s T S h t w v p q (Err f) (spot_found h t v p q x) (leading q (Err f) a)))
+
+      pub refused_leave : Leaves S S' U.heads q.level e.node (Err f) → Stepped s T S S' w w r
+      refused_leave a = refused (λ h t v p. err_ok f tt (left_is s T S h t w v p q S' (Err f) (spot_found h t v p q x) (from_end q.level (Err f) a)))
+
   pub stepped_done : (w' : Walk) (q : Spot) (x : K × V) (f : Handle) → 0 < w.left → w' ≡ moved s f w
-      → Finds s T.heads 0 e (Ok q) → StandsAt T q (Ok x) → Leads s T.heads q (Ok f) → Leaves S S' T.heads q.level e.node (Ok tt) → Stepped s T S S' w w' (Ok (Some x))
+      → Finds s U.heads 0 e (Ok q) → StandsAt T q (Ok x) → Leads s U.heads q (Ok f) → Leaves S S' U.heads q.level e.node (Ok tt) → Stepped s T S S' w w' (Ok (Some x))
   stepped_done w' q x f l o a b c d = record {
     fault = tt;
     none_left = λ y. absurd (omega arith);

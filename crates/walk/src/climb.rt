@@ -1,18 +1,18 @@
 //! The way from the edge of a leaf up to the next entry, and down again.
 
-ghost use Rattle.std.specs.Prelude.{◌≡◌, ℕ, ◌+◌, ◌<◌, ◌≤◌, length, IfOk, Ok, MatchResult, slice_index};
+ghost use Rattle.std.specs.Prelude.{◌≡◌, ℕ, ◌+◌, ◌<◌, ◌≤◌, length, IfOk, Ok, MatchResult};
 ghost use Rattle.node.specs.Store.{head_in};
 ghost use Rattle.walk.specs.Leaving.{Leaves, Clears};
 ghost use Rattle.walk.specs.Climbs.{Breached, beside, Edged, Finds, Leads, Tops};
 
-use node::count::MAX_HEIGHT;
-use node::ends::{Handle, Side, first_leaf_edge, last_leaf_edge};
-use node::head::{CAPACITY, Head, NULL};
+use node::count::{MAX_HEIGHT, len_at};
+use node::ends::{Handle, Side, leaf_edge};
+use node::head::{Head, NULL};
 use node::nodes::NodeRef;
 use supply::{Fault, Supply};
 
 /// An entry: its node, its index there, and how far above the leaves it stands.
-#[derive(Clone, Copy)]
+#[derive(Clone, Copy, PartialEq, Eq, Debug)]
 pub struct Spot {
     pub node: u16,
     pub idx: u16,
@@ -23,14 +23,10 @@ pub struct Spot {
 fn edged(heads: &[Head], at: Handle) -> Result<u16, Fault>
     ensures { MatchResult result (λ n. Edged heads.now at × (n ≡ (head_in heads.now at.node).len)) (λ f. (f ≡ Fault.Breach) × (Edged heads.now at → ⊥)) }
 {
-    if at.node as usize >= heads.len() {
-        return Err(Fault::Breach);
+    match len_at(heads, at.node) {
+        Ok(len) if at.idx as usize <= len => Ok(len as u16),
+        _ => Err(Fault::Breach),
     }
-    let len = heads[at.node as usize].len;
-    if len as usize > CAPACITY || at.idx > len {
-        return Err(Fault::Breach);
-    }
-    Ok(len)
 }
 
 /// The index of the entry beside an edge, on the way from this side.
@@ -38,8 +34,8 @@ fn entry_beside(side: Side, len: u16, idx: u16) -> Option<u16>
     ensures { result ≡ beside side len idx }
 {
     match side {
-        Side::First => { if idx < len { Some(idx) } else { None } }
-        Side::Last => { if 0 < idx { Some(idx - 1) } else { None } }
+        Side::First => (idx < len).then_some(idx),
+        Side::Last => idx.checked_sub(1),
     }
 }
 
@@ -85,21 +81,10 @@ pub(crate) fn next_edge(heads: &[Head], side: Side, spot: Spot) -> Result<Handle
         });
     }
     let under = NodeRef {
-        node: edge_of(&heads[spot.node as usize].edges, idx as usize),
+        node: heads[spot.node as usize].edges[idx as usize],
         height: spot.level - 1,
     };
-    match side {
-        Side::First => first_leaf_edge(heads, under).or(Err(Fault::Breach)),
-        Side::Last => last_leaf_edge(heads, under).or(Err(Fault::Breach)),
-    }
-}
-
-/// The edge at `index`.
-fn edge_of(edges: &[u16; 12], index: usize) -> u16
-    requires { index < 12 }
-    ensures { result ≡ slice_index edges.now index }
-{
-    edges[index]
+    leaf_edge(heads, side, under).or(Err(Fault::Breach))
 }
 
 /// Gives back `count` nodes: `node`, its parent and so on.

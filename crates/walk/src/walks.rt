@@ -1,18 +1,18 @@
 //! Walks over the entries of a tree, from both ends.
 
 ghost use Rattle.std.specs.Prelude.{◌≡◌, ◌*◌, ◌<◌, ◌≤◌, true};
-ghost use Rattle.node.specs.Store.{tables};
 ghost use Rattle.walk.specs.Climbs.{Breached};
 ghost use Rattle.walk.specs.Walks.{end_of, moved, Opens, Stepped, StandsAt, Emptied, Closes, Releases};
 
 use crate::climb::{Spot, clear, find, leave, next_edge};
-use node::ends::{Handle, Side, first_leaf_edge, last_leaf_edge};
-use node::head::{CAPACITY, Head, NULL};
-use node::nodes::{MOST, NodeRef, len_in};
+use node::ends::{Handle, Side, leaf_edge};
+use node::head::{CAPACITY, NULL};
+use node::nodes::NodeRef;
+use node::tables::{MOST, Tables};
 use supply::{Fault, Supply};
 
 /// The entries between two edges of leaves, and how many they are.
-#[derive(Clone, Copy)]
+#[derive(Clone, Copy, PartialEq, Eq, Debug)]
 pub struct Walk {
     pub front: Handle,
     pub back: Handle,
@@ -23,18 +23,14 @@ pub struct Walk {
 const NO_EDGE: Handle = Handle { node: NULL, idx: 0 };
 
 /// The entry at a place of the tables.
-fn entry_at<K: Copy, V: Copy>(
-    heads: &[Head],
-    keys: &[K],
-    values: &[V],
-    spot: Spot,
-) -> Result<(K, V), Fault>
+fn entry_at<K: Copy, V: Copy>(tables: &Tables<'_, K, V>, spot: Spot) -> Result<(K, V), Fault>
     requires { spot.idx < 11 }
     ensures fault { Breached result }
-    ensures entry { StandsAt (tables heads.now keys.now values.now) spot result }
+    ensures entry { StandsAt tables.now spot result }
 {
-    len_in(heads, keys, values, spot.node).or(Err(Fault::Breach))?;
+    tables.len_in(spot.node).or(Err(Fault::Breach))?;
     let at = CAPACITY * spot.node as usize + spot.idx as usize;
+    let Tables { keys, values, .. } = tables;
     Ok((keys[at], values[at]))
 }
 
@@ -43,12 +39,8 @@ fn fit(left: usize, nodes: usize) -> bool
     ensures none { left ≡ 0 → result ≡ true }
     ensures held { nodes ≤ 4096 → left ≤ 11 * nodes → result ≡ true }
     ensures few { result ≡ true → left ≤ 11 * nodes }
-    ensures most { result ≡ true → left ≤ 45056 }
 {
-    if left == 0 {
-        return true;
-    }
-    nodes <= MOST && left <= CAPACITY * nodes
+    left == 0 || (nodes <= MOST && left <= CAPACITY * nodes)
 }
 
 impl Walk {
@@ -85,22 +77,20 @@ impl Walk {
     /// Hands out the entry at one end, and gives back the nodes that it leaves behind.
     fn step<K: Copy, V: Copy, S: Supply>(
         &mut self,
-        heads: &[Head],
-        keys: &[K],
-        values: &[V],
+        tables: &Tables<'_, K, V>,
         supply: &mut S,
         side: Side,
     ) -> Result<Option<(K, V)>, Fault>
-        ensures { Stepped side (tables heads.now keys.now values.now) (S.stock supply.old) (S.stock supply.new) self.old self.new result }
+        ensures { Stepped side tables.now (S.stock supply.old) (S.stock supply.new) self.old self.new result }
     {
         if self.left == 0 {
             return Ok(None);
         }
         let at = self.end(side);
-        let spot = find(heads, side, at, 0)?;
-        let entry = entry_at(heads, keys, values, spot)?;
-        let edge = next_edge(heads, side, spot)?;
-        leave(heads, supply, at.node, spot.level)?;
+        let spot = find(tables.heads, side, at, 0)?;
+        let entry = entry_at(tables, spot)?;
+        let edge = next_edge(tables.heads, side, spot)?;
+        leave(tables.heads, supply, at.node, spot.level)?;
         *self = self.with_end(side, edge);
         Ok(Some(entry))
     }
@@ -108,38 +98,32 @@ impl Walk {
     /// Hands out the least entry left, or none where none is left. A node that is left behind goes back to the supply.
     pub fn next<K: Copy, V: Copy, S: Supply>(
         &mut self,
-        heads: &[Head],
-        keys: &[K],
-        values: &[V],
+        tables: &Tables<'_, K, V>,
         supply: &mut S,
     ) -> Result<Option<(K, V)>, Fault>
-        ensures { Stepped Side.First (tables heads.now keys.now values.now) (S.stock supply.old) (S.stock supply.new) self.old self.new result }
+        ensures { Stepped Side.First tables.now (S.stock supply.old) (S.stock supply.new) self.old self.new result }
     {
-        self.step(heads, keys, values, supply, Side::First)
+        self.step(tables, supply, Side::First)
     }
 
     /// Hands out the greatest entry left, or none where none is left. A node that is left behind goes back to the supply.
     pub fn next_back<K: Copy, V: Copy, S: Supply>(
         &mut self,
-        heads: &[Head],
-        keys: &[K],
-        values: &[V],
+        tables: &Tables<'_, K, V>,
         supply: &mut S,
     ) -> Result<Option<(K, V)>, Fault>
-        ensures { Stepped Side.Last (tables heads.now keys.now values.now) (S.stock supply.old) (S.stock supply.new) self.old self.new result }
+        ensures { Stepped Side.Last tables.now (S.stock supply.old) (S.stock supply.new) self.old self.new result }
     {
-        self.step(heads, keys, values, supply, Side::Last)
+        self.step(tables, supply, Side::Last)
     }
 
     /// A walk over all entries of the tree under `root`, which are `count`; over none where there is no root.
     pub fn open<K, V>(
-        heads: &[Head],
-        keys: &[K],
-        values: &[V],
+        tables: &Tables<'_, K, V>,
         root: Option<NodeRef>,
         count: usize,
     ) -> Result<Walk, Fault>
-        ensures { Opens (tables heads.now keys.now values.now) root count result }
+        ensures { Opens tables.now root count result }
     {
         let Some(root) = root else {
             return Ok(Walk {
@@ -148,10 +132,10 @@ impl Walk {
                 left: 0,
             });
         };
-        len_in(heads, keys, values, root.node).or(Err(Fault::Breach))?;
+        tables.len_in(root.node).or(Err(Fault::Breach))?;
         Ok(Walk {
-            front: first_leaf_edge(heads, root).or(Err(Fault::Breach))?,
-            back: last_leaf_edge(heads, root).or(Err(Fault::Breach))?,
+            front: leaf_edge(tables.heads, Side::First, root).or(Err(Fault::Breach))?,
+            back: leaf_edge(tables.heads, Side::Last, root).or(Err(Fault::Breach))?,
             left: count,
         })
     }
@@ -159,52 +143,42 @@ impl Walk {
     /// Steps until none is left, and says how many entries that were.
     fn empty<K: Copy, V: Copy, S: Supply>(
         &mut self,
-        heads: &[Head],
-        keys: &[K],
-        values: &[V],
+        tables: &Tables<'_, K, V>,
         supply: &mut S,
     ) -> Result<usize, Fault>
-        requires { self.old.left ≤ 45056 }
-        ensures { Emptied (tables heads.now keys.now values.now) (S.stock supply.old) (S.stock supply.new) self.old self.new result }
+        ensures { Emptied tables.now (S.stock supply.old) (S.stock supply.new) self.old self.new result }
     {
-        let mut dropped = 0;
-        while self.left > 0 {
-            let _ = self.next(heads, keys, values, supply)?;
-            dropped += 1;
-        }
+        let dropped = self.left;
+        while let Some(_) = self.next(tables, supply)? {}
         Ok(dropped)
     }
 
     /// Drops the entries that are left, and gives back all nodes of the walk. Answers how many entries were dropped.
     pub fn close<K: Copy, V: Copy, S: Supply>(
         self,
-        heads: &[Head],
-        keys: &[K],
-        values: &[V],
+        tables: &Tables<'_, K, V>,
         supply: &mut S,
     ) -> Result<usize, Fault>
-        ensures { Closes (tables heads.now keys.now values.now) (S.stock supply.old) (S.stock supply.new) self result }
+        ensures { Closes tables.now (S.stock supply.old) (S.stock supply.new) self result }
     {
-        if !fit(self.left, heads.len()) {
+        if !fit(self.left, tables.heads.len()) {
             return Err(Fault::Breach);
         }
         let mut walk = self;
-        let dropped = walk.empty(heads, keys, values, supply)?;
-        clear(heads, supply, walk.front.node)?;
+        let dropped = walk.empty(tables, supply)?;
+        clear(tables.heads, supply, walk.front.node)?;
         Ok(dropped)
     }
 }
 
 /// Drops the entries of the tree under `root`, which are `count`, and gives back its nodes. Answers how many entries were dropped.
 pub fn release<K: Copy, V: Copy, S: Supply>(
-    heads: &[Head],
-    keys: &[K],
-    values: &[V],
+    tables: &Tables<'_, K, V>,
     supply: &mut S,
     root: Option<NodeRef>,
     count: usize,
 ) -> Result<usize, Fault>
-    ensures { Releases (tables heads.now keys.now values.now) (S.stock supply.old) (S.stock supply.new) root count result }
+    ensures { Releases tables.now (S.stock supply.old) (S.stock supply.new) root count result }
 {
-    Walk::open(heads, keys, values, root, count)?.close(heads, keys, values, supply)
+    Walk::open(tables, root, count)?.close(tables, supply)
 }
