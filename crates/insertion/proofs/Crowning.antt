@@ -84,24 +84,48 @@ module _ {K V : Type 0} (T T₁ T₂ : Tables K V) (S S' : Stock) (h m : ℕ) (e
       )
 
 -- a new leaf
-module _ {K V : Type 0} (H : List Head) (ks : List K) (vs : List V) (T₂ : Tables K V) (S S' : Stock) (m : ℕ) (e : K × V) (r : Result (Unit {0}) Fault) (given : Given S S' m)
-    (sized : Sized (tables H ks vs)) (inside : m < length H) (did : InsertsIn (tables (new_leaf H m) ks vs) T₂ 0 m 0 e 0 r) where
+module _ {K V : Type 0} (H : List Head) (ks : List K) (vs : List V) {G : List Head} (T₂ : Tables K V) (S S' : Stock) (m : ℕ) (e : K × V) (r : Result (Unit {0}) Fault) (given : Given S S' m)
+    (sized : Sized (tables H ks vs)) (made : (m < length H) × (G ≡ new_leaf H m)) (did : InsertsIn (tables G ks vs) T₂ 0 m 0 e 0 r) where
   pub first_leaf : (r ≡ Ok tt) × Planted (tables H ks vs) T₂ S S' (λ _. 0) (0, mk m (e ∷ []) []) 1
   first_leaf =
-      crowned (tables H ks vs) (tables (new_leaf H m) ks vs) T₂ S S' 0 m e 0 r [] [] given sized (λ z. omega arith) (leaf_changed H ks vs m inside) (leaf_root H ks vs m inside)
-      (record { body = leaf_node H ks vs m inside; fan = record { leaf = λ z. refl; inner = λ z. absurd (omega arith) }; linked = λ j l. absurd (omega arith); all = All-nil (Holds (tables (new_leaf H m) ks vs) (0 - 1)) })
-      (All-nil (Holds (tables (new_leaf H m) ks vs) (0 - 1))) (record { leaf = λ z. refl; inner = λ z. absurd (omega arith) }) did
+      crowned (tables H ks vs) (tables (new_leaf H m) ks vs) T₂ S S' 0 m e 0 r [] [] given sized (λ z. omega arith) (leaf_changed H ks vs m made.0) (leaf_root H ks vs m made.0)
+      (record {
+        body = leaf_node H ks vs m made.0;
+        fan = record { leaf = λ z. refl; inner = λ z. absurd (omega arith) };
+        linked = λ j l. absurd (omega arith);
+        all = All-nil (Holds (tables (new_leaf H m) ks vs) (0 - 1));
+      })
+      (All-nil (Holds (tables (new_leaf H m) ks vs) (0 - 1))) (record { leaf = λ z. refl; inner = λ z. absurd (omega arith) }) (subst (λ hs. InsertsIn (tables hs ks vs) T₂ 0 m 0 e 0 r) made.1 did)
 
 -- a root above two trees
-module _ {K V : Type 0} (H : List Head) (ks : List K) (vs : List V) (T₂ : Tables K V) (S S' : Stock) (h m : ℕ) (e : K × V) (r : Result (Unit {0}) Fault) (l y : Tree (K × V)) (given : Given S S' m)
-    (sized : Sized (tables H ks vs)) (u : Holds (tables H ks vs) h l) (v : Holds (tables H ks vs) h y) (owned : (z : ℕ) → occurs z h l + occurs z h y ≤ mark S z)
-    (inside : m < length H) (left_in : number l < length H) (other : m ≡ number l → ⊥) (room : 0 < length (head_in H m).edges)
-    (did : InsertsIn (tables (push_level H (number l) m) ks vs) T₂ (suc h) m 0 e (number y) r) where
+module _ {K V : Type 0} (H : List Head) (ks : List K) (vs : List V) (T₂ : Tables K V) (S S' : Stock) (h m : ℕ) (e : K × V) (r : Result (Unit {0}) Fault) (l y : Tree (K × V)) {a b : ℕ} {G : List Head} (given : Given S S' m)
+    (sized : Sized (tables H ks vs)) (u : Holds (tables H ks vs) h l) (v : Holds (tables H ks vs) h y) (at-l : number l ≡ a) (at_y : number y ≡ b) (owned : (z : ℕ) → occurs z h l + occurs z h y ≤ mark S z)
+    (pushed : (m < length H) × (a < length H) × (m ≡ a → ⊥) × (0 < length (head_in H m).edges) × (G ≡ push_level H a m))
+    (call : InsertsIn (tables G ks vs) T₂ (h + 1) m 0 e b r) where
   abbrev T : Tables K V
   T = tables H ks vs
 
   abbrev T₁ : Tables K V
   T₁ = tables (push_level H (number l) m) ks vs
+
+  inside : m < length H
+  inside = pushed.0
+
+  left_in : number l < length H
+  left_in = omega (arith, pushed.1)
+
+  other : m ≡ number l → ⊥
+  other z = pushed.2 (z ∙ at-l)
+
+  room : 0 < length (head_in H m).edges
+  room = pushed.3
+
+  -- the call in the words of the trees
+  did : InsertsIn T₁ T₂ (suc h) m 0 e (number y) r
+  did =
+      subst (λ k. InsertsIn T₁ T₂ k m 0 e (number y) r) (let z : h + 1 ≡ suc h = omega arith in z)
+      (subst (λ n. InsertsIn T₁ T₂ (h + 1) m 0 e n r) (sym at_y)
+      (subst (λ hs. InsertsIn (tables hs ks vs) T₂ (h + 1) m 0 e b r) (pushed.4 ∙ ap (λ n. push_level H n m) (sym at-l)) call))
 
   made : Changed T T₁ (m ∷ []) (m ∷ number l ∷ [])
   made = push_changed H ks vs m inside (number l) left_in other room
@@ -141,15 +165,3 @@ pub apart_from : {E : Type 0} (S S' : Stock) (m h : ℕ) (t : Tree E) → Given 
 apart_from S S' m h t given owned e =
     let z : occurs m h t ≡ occurs (number t) h t = ap (λ x. occurs x h t) e in
     omega (arith, owned m, occurs_root h t, mark_unused S m given.unused)
-
--- the same call in the words of the trees
-pub crown_call : {K V : Type 0} (H G : List Head) (ks : List K) (vs : List V) (T₂ : Tables K V) (h m : ℕ) (e : K × V) (r : Result (Unit {0}) Fault) (l y : Tree (K × V)) (a b : ℕ) → number l ≡ a → number y ≡ b
-    → G ≡ push_level H a m → InsertsIn (tables G ks vs) T₂ (h + 1) m 0 e b r → InsertsIn (tables (push_level H (number l) m) ks vs) T₂ (suc h) m 0 e (number y) r
-crown_call H G ks vs T₂ h m e r l y a b p q s did =
-    subst (λ k. InsertsIn (tables (push_level H (number l) m) ks vs) T₂ k m 0 e (number y) r) (let z : h + 1 ≡ suc h = omega arith in z)
-    (subst (λ n. InsertsIn (tables (push_level H (number l) m) ks vs) T₂ (h + 1) m 0 e n r) (sym q)
-    (subst (λ hs. InsertsIn (tables hs ks vs) T₂ (h + 1) m 0 e b r) (s ∙ ap (λ n. push_level H n m) (sym p)) did))
-
-pub first_call : {K V : Type 0} (H G : List Head) (ks : List K) (vs : List V) (T₂ : Tables K V) (m : ℕ) (e : K × V) (r : Result (Unit {0}) Fault)
-    → G ≡ new_leaf H m → InsertsIn (tables G ks vs) T₂ 0 m 0 e 0 r → InsertsIn (tables (new_leaf H m) ks vs) T₂ 0 m 0 e 0 r
-first_call H G ks vs T₂ m e r s did = subst (λ hs. InsertsIn (tables hs ks vs) T₂ 0 m 0 e 0 r) s did

@@ -28,9 +28,16 @@ replaced_not_fit x e = let z : ◌≡◌ {A = ℕ} 0 1 = cc in omega arith
 replaced_same : {K V : Type 0} (x y : V) → ◌≡◌ {A = InsertResult K V} (Replaced x) (Replaced y) → x ≡ y
 replaced_same x y e = cc
 
-module _ {K V : Type 0} (place : (K × V) → Ordering) (T T₁ : Tables K V) (S S₁ : Stock) (h : ℕ) (e : K × V) (t : Tree (K × V)) (owns : Owns T S h t) (root : Rooted T (number t)) where
+module _ {K V : Type 0} (place : (K × V) → Ordering) (T T₁ : Tables K V) (S S₁ : Stock) (n : NodeRef) (e : K × V) (t : Tree (K × V)) (owns : Owns T S n.height t) (at-m : number t ≡ n.node)
+    (root : Rooted T n.node) where
+  abbrev h : ℕ
+  h = n.height
+
   abbrev b : K × V → Bool
   b y = is_gt (place y)
+
+  same-root : n ≡ root_of (h, t)
+  same-root = ap (λ m. record { node = m; height = h }) (sym at-m)
 
   abbrev f : ℕ → ℕ
   f x = occurs x h t
@@ -41,7 +48,7 @@ module _ {K V : Type 0} (place : (K × V) → Ordering) (T T₁ : Tables K V) (S
   fitted k fresh r q w = (
     subst (λ g. Planted T T₁ S S₁ f (planted 0 h g) (need b h t)) (sym q) (record {
       held = w.held;
-      root = ap (λ x. head_parent x) w.stem_is ∙ w.link.parent_same ∙ root;
+      root = ap (λ x. head_parent x) w.stem_is ∙ w.link.parent_same ∙ subst (Rooted T) (sym at-m) root;
       balance = w.balance;
       beside = w.beside;
       taken = w.taken ∙ ap (λ n. S₁.allowance + n) (sym same_need);
@@ -65,9 +72,9 @@ module _ {K V : Type 0} (place : (K × V) → Ordering) (T T₁ : Tables K V) (S
       granted = λ s l. absurd (err_not_ok _ _ (sym p ∙ (d.granted s l).1.told));
     }
 
-    pub entered_replaced : (old : V) → r ≡ Ok (Replaced old) → Entered place T T₁ S S₁ h e t (Ok (root_of (h, t), Some old))
+    pub entered_replaced : (old : V) → r ≡ Ok (Replaced old) → Entered place T T₁ S S₁ h e t (Ok (n, Some old))
     entered_replaced old p = record {
-      replaced = λ x s. let q = d.replaced x s in (ap (λ z. Ok (root_of (h, t), Some z)) (replaced_same old (second x) (ok_same _ _ (sym p ∙ q.0))), q.1);
+      replaced = λ x s. let q = d.replaced x s in (ap (λ m. Ok (m, Some old)) same-root ∙ ap (λ z. Ok (root_of (h, t), Some z)) (replaced_same old (second x) (ok_same _ _ (sym p ∙ q.0))), q.1);
       declined = λ s l. absurd (err_not_ok _ _ (sym (d.declined s l).0 ∙ p));
       granted = λ s l. absurd (not_grown (grow (d.granted s l).0 b e h t) (ok_same _ _ (sym p ∙ (d.granted s l).1.told)));
     }
@@ -76,7 +83,7 @@ module _ {K V : Type 0} (place : (K × V) → Ordering) (T T₁ : Tables K V) (S
         not_grown (whole k) q = replaced_not_fit old q
         not_grown (parted l x y) q = replaced_not_split old (first x) (second x) (number y) q
 
-    pub entered_fit : r ≡ Ok Fit → Entered place T T₁ S S₁ h e t (Ok (root_of (h, t), None))
+    pub entered_fit : r ≡ Ok Fit → Entered place T T₁ S S₁ h e t (Ok (n, None))
     entered_fit p = record {
       replaced = λ x s. absurd (replaced_not_fit (second x) (sym (ok_same _ _ (sym p ∙ (d.replaced x s).0))));
       declined = λ s l. absurd (err_not_ok _ _ (sym (d.declined s l).0 ∙ p));
@@ -84,14 +91,14 @@ module _ {K V : Type 0} (place : (K × V) → Ordering) (T T₁ : Tables K V) (S
     }
       where
         go : (fresh : ℕ → ℕ) (g : Grown (K × V)) → grow fresh b e h t ≡ g → Grew T T₁ S S₁ f h (number t) g (run b h t) r
-            → (◌≡◌ {A = Result (NodeRef × Option V) Fault} (Ok (root_of (h, t), None)) (Ok (root_of (planted 0 h (grow fresh b e h t)), None))) × Planted T T₁ S S₁ f (planted 0 h (grow fresh b e h t)) (need b h t)
+            → (◌≡◌ {A = Result (NodeRef × Option V) Fault} (Ok (n, None)) (Ok (root_of (planted 0 h (grow fresh b e h t)), None))) × Planted T T₁ S S₁ f (planted 0 h (grow fresh b e h t)) (need b h t)
         go fresh (whole k) q w =
             let d = fitted k fresh r q w in
-            (ap (λ n. Ok (record { node = n; height = h }, None)) (sym d.1) ∙ ap (λ g. Ok (root_of (planted 0 h g), None)) (sym q), d.0)
+            (ap (λ m. Ok (m, None)) same-root ∙ ap (λ m. Ok (record { node = m; height = h }, None)) (sym d.1) ∙ ap (λ g. Ok (root_of (planted 0 h g), None)) (sym q), d.0)
         go fresh (parted l x y) q w = absurd (fit_not_split (first x) (second x) (number y) (ok_same _ _ (sym p ∙ w.told)))
 
     -- a tree that was split, and the root put above its halves
-    module _ (T₂ : Tables K V) (S₂ : Stock) (k : K) (v : V) (c : ℕ) (p : r ≡ Ok (Split k v c)) (r₂ : Result NodeRef Fault) (crowns : Crowns T₁ T₂ S₁ S₂ h (number t) (k, v) c r₂) where
+    module _ (T₂ : Tables K V) (S₂ : Stock) (k : K) (v : V) (c : ℕ) (p : r ≡ Ok (Split k v c)) (r₂ : Result NodeRef Fault) (crowns : Crowns T₁ T₂ S₁ S₂ h n.node (k, v) c r₂) where
       abbrev Rooting : (ℕ → ℕ) → Type 0
       Rooting fresh = (top : ℕ) × (r₂ ≡ Ok (root_of (planted top h (grow fresh b e h t)))) × Planted T T₂ S S₂ f (planted top h (grow fresh b e h t)) (need b h t)
 
@@ -103,7 +110,7 @@ module _ {K V : Type 0} (place : (K × V) → Ordering) (T T₁ : Tables K V) (S
           let ran : run b h t ≡ suc h = subst (Ran h (run b h t)) q (grow_ran fresh b e h t) in
           let needs : need b h t ≡ run b h t + 1 = ap (λ n. run b h t + n) (cond-true (leb (suc h) (run b h t)) 1 0 (le-leb (suc h) (run b h t) (omega arith))) in
           let entry : ◌≡◌ {A = K × V} (k, v) x = ap₂ {C = K × V} (λ a z. (a, z)) m.0 m.1 in
-          let u = crowns l y (beside_sized T T₁ S f w.beside owns.sized) (omega (arith, w.balance.size, owns.fits, w.beside.heads_len)) w.held.0 w.held.1 w.stem_is (sym m.2)
+          let u = crowns l y (beside_sized T T₁ S f w.beside owns.sized) (omega (arith, w.balance.size, owns.fits, w.beside.heads_len)) w.held.0 w.held.1 (w.stem_is ∙ at-m) (sym m.2)
           (λ z. omega (arith, w.balance.marks z, owns.owned z)) (omega (arith, w.taken)) in
           let top : ℕ = u.0 in
           let same-tree : ◌≡◌ {A = ℕ × Tree (K × V)} (suc h, mk top ((k, v) ∷ []) (l ∷ y ∷ [])) (planted top h (grow fresh b e h t)) =
@@ -119,8 +126,8 @@ module _ {K V : Type 0} (place : (K × V) → Ordering) (T T₁ : Tables K V) (S
             }),
           )
 
-      pub entered_split : (n : NodeRef) → r₂ ≡ Ok n → Entered place T T₂ S S₂ h e t (Ok (n, None))
-      entered_split n z = record {
+      pub entered_split : (top : NodeRef) → r₂ ≡ Ok top → Entered place T T₂ S S₂ h e t (Ok (top, None))
+      entered_split top z = record {
         replaced = λ x s. absurd (replaced_not_split (second x) k v c (sym (ok_same _ _ (sym p ∙ (d.replaced x s).0))));
         declined = λ s l. absurd (err_not_ok _ _ (sym (d.declined s l).0 ∙ p));
         granted = λ s l.
@@ -135,9 +142,3 @@ module _ {K V : Type 0} (place : (K × V) → Ordering) (T T₁ : Tables K V) (S
         declined = λ s l. absurd (err_not_ok _ _ (sym (d.declined s l).0 ∙ p));
         granted = λ s l. let q = d.granted s l in absurd (err_not_ok _ _ (sym z ∙ (rooted q.0 (grow q.0 b e h t) refl q.1 l).1));
       }
-
-pub root_is : {K V : Type 0} (T : Tables K V) {m : ℕ} (t : Tree (K × V)) → number t ≡ m → Rooted T m → Rooted T (number t)
-root_is T t e r = subst (Rooted T) (sym e) r
-
-pub crowns_at : {K V : Type 0} (T T' : Tables K V) (S S' : Stock) (h m n c : ℕ) (x : K × V) (r : Result NodeRef Fault) → n ≡ m → Crowns T T' S S' h m x c r → Crowns T T' S S' h n x c r
-crowns_at T T' S S' h m n c x r e w = subst (λ k. Crowns T T' S S' h k x c r) (sym e) w

@@ -5,6 +5,7 @@ use Rattle.std.proofs.lemmas.Bool.{cond-true, cond-false, lt-ltb, le-ltb, le-leb
 use Rattle.supply.specs.declared.faults.Fault.{Fault}
 use Rattle.supply.specs.Stocks.{Stock, size_of, Given}
 use Rattle.node.specs.Shape.{Tree, number, mk, total}
+use Rattle.node.specs.Operations.{Lies}
 use Rattle.node.specs.Store.{Tables, Sized, Holds, Changed, times}
 use Rattle.node.specs.Laws.{occurs, same}
 use Rattle.node.specs.Rules.{Grown, whole, parted, settle, put, swap}
@@ -21,6 +22,10 @@ use Rattle.insertion.specs.Grew.{Grew, seated, coming, members}
 use Rattle.insertion.specs.Descent.{Comes}
 use Rattle.insertion.proofs.Slots.{Fits, up_to, past, seated_parts, swap_parts, seated_front, seated_back, fits_front, fits_back, seated_length, up_to_none, up_to_long, past_none, comes_fits, comes_lengths, comes_edges}
 use Rattle.insertion.proofs.Settling.{fit_held, left_held, right_held}
+
+-- how many entries node m has, as it was read from the same tables
+pub held_long : {K V : Type 0} {T₀ : Tables K V} (T : Tables K V) (h m : ℕ) {n : ℕ} (es : List (K × V)) (ts : List (Tree (K × V))) → T₀ ≡ T → Lies T₀ m n → Holds T h (mk m es ts) → n ≡ length es
+held_long T h m {n} es ts eq lies w = sym (subst (λ U. Lies U m n) eq lies).len_is ∙ (held_mk T h m es ts w).body.len_is
 
 module _ {K V : Type 0} (T T' : Tables K V) (S : Stock) (h m i : ℕ) (e : K × V) (c : ℕ) (es : List (K × V)) (ks new : List (Tree (K × V)))
     (sized : Sized T) (fits : size_of S ≡ length T.heads) (w : Holds T h (mk m es (seated i new ks))) (others : All (Holds T (h - 1)) (coming new))

@@ -1,14 +1,21 @@
--- The search in a node of the tables, as the rule on trees has it. Assumes nothing.
+-- The search in a node of the tables, and what comes of an insertion under that node. Assumes nothing.
 use Rattle.rules.proofs.Searches.{first_is}
-use Rattle.std.proofs.Common.{◌≡◌, ℕ, ◌-◌, ◌<◌, true, false, length, get_or, Ok, Err, Result, Ordering, sym, ap, ◌∙◌, subst, arith}
+use Rattle.std.proofs.Common.{◌≡◌, ℕ, ◌-◌, ◌<◌, true, false, length, get_or, Ok, Err, Result, Ordering, sym, ap, ◌∙◌, subst}
 use Rattle.std.specs.Ordering.{is_gt}
+use Rattle.order.specs.declared.search.SearchResult.{SearchResult}
 use Rattle.order.specs.declared.search.SearchResult.TheVariants.{Found, GoDown}
 use Rattle.order.specs.Found.{first_not_below, found_at}
+use Rattle.node.specs.declared.nodes.NodeRef.{NodeRef}
+use Rattle.node.specs.declared.nodes.Leaf.{Leaf}
+use Rattle.node.specs.declared.nodes.Internal.{Internal}
+use Rattle.node.specs.declared.nodes.ForceResult.TheVariants as kind
+use Rattle.node.specs.Kinds.{forced}
 use Rattle.node.specs.Shape.{Tree, number, row, kid}
-use Rattle.node.specs.Store.{Tables, Holds, head_at, first, second}
+use Rattle.node.specs.Store.{Tables, head_at, first, second}
 use Rattle.node.specs.Sorted.{index}
-use Rattle.map.specs.Lookup.{SearchedIn, PassedIn, keys_at}
-use Rattle.map.proofs.Seeking.{found_is, index_is, was_found, was_passed, child_number}
+use Rattle.node.proofs.Forced.{forced_leaf, forced_inner}
+use Rattle.map.specs.Lookup.{SearchedIn, keys_at}
+use Rattle.map.proofs.Seeking.{found_is, index_is, was_found, passed_by, child_number}
 use Rattle.supply.specs.declared.faults.Fault.{Fault}
 use Rattle.supply.specs.Stocks.{Stock}
 use Rattle.node.specs.Balance.{Owns}
@@ -19,70 +26,80 @@ use Rattle.insertion.specs.declared.descent.InsertResult.TheVariants.{Replaced, 
 use Rattle.insertion.specs.Descent.{above_child, Settles, Descends, Descended}
 use Rattle.insertion.proofs.Descended.{found_not, found_down, leaf_down, passed_up, split_up, child_owned}
 
-module _ {K V : Type 0} (place : K → Ordering) (T : Tables K V) (h m : ℕ) (t : Tree (K × V)) (w : Holds T h t) (at-m : number t ≡ m) (i made : ℕ) where
+-- the search in node n, in tables that are T, came to r
+module _ {K V : Type 0} (place : K → Ordering) {T₀ T : Tables K V} {S : Stock} (n : NodeRef) (e : K × V) (above : ℕ) (t : Tree (K × V)) (owns : Owns T S n.height t) (at-m : number t ≡ n.node)
+    (i made : ℕ) {r : SearchResult} (same : T₀ ≡ T) (searched : SearchedIn place T₀ n.node r made) where
   abbrev pl : K × V → Ordering
-  pl e = place (first e)
+  pl y = place (first y)
 
-  pub found_at_lem : SearchedIn place T m (Found i) made → (found_at pl (row t) ≡ true) × (i ≡ first_not_below pl (row t))
-  found_at_lem s =
-      let f = was_found (found_at place (keys_at T m)) (first_not_below place (keys_at T m)) i s.result in
-      (sym (found_is place T h m t w at-m) ∙ f.0, sym f.1 ∙ index_is place T h m t w at-m)
+  abbrev at : ℕ
+  at = index (λ y. is_gt (pl y)) (row t)
 
-  pub passed_at : SearchedIn place T m (GoDown i) made → (found_at pl (row t) ≡ false) × (i ≡ index (λ e. is_gt (pl e)) (row t))
-  passed_at s =
-      let f = was_passed (found_at place (keys_at T m)) (first_not_below place (keys_at T m)) i s.result in
-      (sym (found_is place T h m t w at-m) ∙ f.0, sym f.1 ∙ index_is place T h m t w at-m ∙ first_is pl (row t))
+  s : SearchedIn place T n.node r made
+  s = subst (λ (U : Tables K V). SearchedIn place U n.node r made) same searched
 
-  pub passed_in : SearchedIn place T m (GoDown i) made → PassedIn place T m i made
-  passed_in s = record { lies = s.lies; result = s.result; few = omega (arith, s.few, s.lies.few); count = s.count; most = s.most }
+  hit_at : r ≡ Found i → (found_at pl (row t) ≡ true) × (i ≡ first_not_below pl (row t))
+  hit_at came =
+      let f = was_found (found_at place (keys_at T n.node)) (first_not_below place (keys_at T n.node)) i (s.result ∙ came) in
+      (sym (found_is place T n.height n.node t owns.holds at-m) ∙ f.0, sym f.1 ∙ index_is place T n.height n.node t owns.holds at-m)
 
-module _ {K V : Type 0} (place : K → Ordering) (T T₁ : Tables K V) (S S₁ : Stock) (h m : ℕ) (e : K × V) (above : ℕ) (t : Tree (K × V)) (owns : Owns T S h t) (at-m : number t ≡ m) (i made : ℕ) where
-  abbrev pls : K × V → Ordering
-  pls y = place (first y)
+  passed_at : r ≡ GoDown i → (found_at pl (row t) ≡ false) × (i ≡ at)
+  passed_at came =
+      let f = passed_by place T n.height n.node t owns.holds at-m i made s came in
+      (sym (found_is place T n.height n.node t owns.holds at-m) ∙ f.0, sym f.1 ∙ index_is place T n.height n.node t owns.holds at-m ∙ first_is pl (row t))
 
-  module _ (r : Result V Fault) (s : SearchedIn place T m (Found i) made) (did : Replaces T T₁ m i (second e) r) where
-    f_at : (found_at pls (row t) ≡ true) × (i ≡ first_not_below pls (row t))
-    f_at = found_at_lem place T h m t owns.holds at-m i made s
+  -- the key was found
+  module _ (T₁ : Tables K V) (x : Result V Fault) (came : r ≡ Found i) (did : Replaces T T₁ n.node i (second e) x) where
+    did_at : Replaces T T₁ (number t) (first_not_below pl (row t)) (second e) x
+    did_at = subst (λ j. Replaces T T₁ (number t) j (second e) x) (hit_at came).1 (subst (λ m. Replaces T T₁ m i (second e) x) (sym at-m) did)
 
-    did_at : Replaces T T₁ (number t) (first_not_below pls (row t)) (second e) r
-    did_at = subst (λ j. Replaces T T₁ (number t) j (second e) r) f_at.1 (subst (λ x. Replaces T T₁ x i (second e) r) (sym at-m) did)
+    pub step_found : (old : V) → x ≡ Ok old → Descended pl T T₁ S S n.height e above t (Ok (Replaced old))
+    step_found old p = found_down pl T T₁ S n.height e above t x owns (hit_at came).0 did_at old p
 
-    pub step_found : (old : V) → r ≡ Ok old → Descended pls T T₁ S S h e above t (Ok (Replaced old))
-    step_found old p = found_down pls T T₁ S h e above t r owns f_at.0 did_at old p
+    pub step_never : (y : Fault) → x ≡ Err y → ⊥
+    step_never y p = found_not pl T T₁ S n.height e above t x owns (hit_at came).0 did_at y p
 
-    pub step_never : (y : Fault) → r ≡ Err y → ⊥
-    step_never y p = found_not pls T T₁ S h e above t r owns f_at.0 did_at y p
-
-  module _ (s : SearchedIn place T m (GoDown i) made) where
-    p_at : (found_at pls (row t) ≡ false) × (i ≡ index (λ y. is_gt (pls y)) (row t))
-    p_at = passed_at place T h m t owns.holds at-m i made s
-
-    pub step_leaf : (r : Result (InsertResult K V) Fault) → h ≡ 0 → Settles T T₁ S S₁ h m i e 0 above r → Descended pls T T₁ S S₁ h e above t r
+  module _ (T₁ : Tables K V) (S₁ : Stock) (x : Result (InsertResult K V) Fault) (came : r ≡ GoDown i) where
+    -- the node is a leaf
+    pub step_leaf : (leaf : Leaf) → kind.Leaf leaf ≡ forced n → Settles T T₁ S S₁ n.height n.node i e 0 above x → Descended pl T T₁ S S₁ n.height e above t x
     unfolding Settles
-    step_leaf r z did =
-        subst (λ k. Descended pls T T₁ S S₁ k e above t r) (sym z)
-        (leaf_down pls T T₁ S S₁ e above t r (subst (λ k. Owns T S k t) z owns) p_at.0
-        (subst (λ j. Settles T T₁ S S₁ 0 (number t) j e 0 above r) p_at.1 (subst (λ x. Settles T T₁ S S₁ 0 x i e 0 above r) (sym at-m) (subst (λ k. Settles T T₁ S S₁ k m i e 0 above r) z did))))
+    step_leaf leaf kind-is did =
+        let z = (forced_leaf n leaf kind-is).0 in
+        let d = passed_at came in
+        subst (λ k. Descended pl T T₁ S S₁ k e above t x) (sym z)
+        (leaf_down pl T T₁ S S₁ e above t x (subst (λ k. Owns T S k t) z owns) d.0
+        (subst (λ j. Settles T T₁ S S₁ 0 (number t) j e 0 above x) d.1 (subst (λ m. Settles T T₁ S S₁ 0 m i e 0 above x) (sym at-m) (subst (λ k. Settles T T₁ S S₁ k n.node i e 0 above x) z did))))
 
-    module _ (up : 0 < h) (c higher : ℕ) (r₁ : Result (InsertResult K V) Fault) (c-is : c ≡ get_or (head_at T m).edges i 0) (higher-is : higher ≡ above_child (head_at T m).len above)
-        (d : Descends place T T₁ S S₁ (h - 1) c e higher r₁) where
-      below : Descended pls T T₁ S S₁ (h - 1) e (above_child (length (row t)) above) (kid t (index (λ y. is_gt (pls y)) (row t))) r₁
+    -- it is an inner node, and the insertion under its child c came to x
+    module _ {T₂ : Tables K V} (inner : Internal) (c : NodeRef) (higher : ℕ) (kind-is : kind.Internal inner ≡ forced n) (view : T₂ ≡ T)
+        (node-is : c.node ≡ get_or (head_at T₂ inner.node).edges i 0) (height-is : c.height ≡ inner.height - 1) (higher-is : higher ≡ above_child (head_at T₂ inner.node).len above)
+        (done : Descends place T T₁ S S₁ c.height c.node e higher x) where
+      up : 0 < n.height
+      up = (forced_inner n inner kind-is).0
+
+      below : Descended pl T T₁ S S₁ (n.height - 1) e (above_child (length (row t)) above) (kid t at) x
       unfolding Descends
       below =
-          let j : i ≡ index (λ y. is_gt (pls y)) (row t) = p_at.1 in
-          let n : number (kid t i) ≡ c = child_number place T h m t owns.holds at-m i made (passed_in place T h m t owns.holds at-m i made s) up ∙ sym c-is in
-          let len : (head_at T m).len ≡ length (row t) = subst (λ x. (head_at T x).len ≡ length (row t)) at-m (held_from T h t owns.holds).body.len_is in
-          let high : higher ≡ above_child (length (row t)) above = higher-is ∙ ap (λ k. above_child k above) len in
-          subst (λ a. Descended pls T T₁ S S₁ (h - 1) e a (kid t (index (λ y. is_gt (pls y)) (row t))) r₁) high
-          (d (kid t (index (λ y. is_gt (pls y)) (row t))) (child_owned pls T T₁ S S₁ h e above t owns up p_at.0) (subst (λ k. number (kid t k) ≡ c) j n))
+          let k = forced_inner n inner kind-is in
+          let d = passed_at came in
+          let head-is : head_at T₂ inner.node ≡ head_at T (number t) = ap (λ (U : Tables K V). head_at U inner.node) view ∙ ap (head_at T) (k.1 ∙ sym at-m) in
+          let low : c.height ≡ n.height - 1 = height-is ∙ ap (λ h. h - 1) k.2 in
+          let number-is : number (kid t at) ≡ c.node =
+          ap (λ j. number (kid t j)) (sym d.1) ∙ child_number place T n.height n.node t owns.holds at-m i made s came up ∙ ap (λ m. get_or (head_at T m).edges i 0) (sym at-m)
+          ∙ sym (node-is ∙ ap (λ h. get_or h.edges i 0) head-is) in
+          let high : higher ≡ above_child (length (row t)) above = higher-is ∙ ap (λ h. above_child h.len above) head-is ∙ ap (λ l. above_child l above) (held_from T n.height t owns.holds).body.len_is in
+          subst (λ h. Descended pl T T₁ S S₁ h e (above_child (length (row t)) above) (kid t at) x) low
+          (subst (λ a. Descended pl T T₁ S S₁ c.height e a (kid t at) x) high
+          (done (kid t at) (subst (λ h. Owns T S h (kid t at)) (sym low) (child_owned pl T T₁ S S₁ n.height e above t owns up d.0)) number-is))
 
-      pub step_up : ((k : K) (v : V) (n : ℕ) → r₁ ≡ Ok (Split k v n) → ⊥) → Descended pls T T₁ S S₁ h e above t r₁
-      step_up not = passed_up pls T T₁ S S₁ h e above t owns up p_at.0 r₁ below not
+      pub step_up : ((k : K) (v : V) (m : ℕ) → x ≡ Ok (Split k v m) → ⊥) → Descended pl T T₁ S S₁ n.height e above t x
+      step_up not = passed_up pl T T₁ S S₁ n.height e above t owns up (passed_at came).0 x below not
 
-      pub step_split : (T₂ : Tables K V) (S₂ : Stock) (k : K) (v : V) (n : ℕ) (r : Result (InsertResult K V) Fault) → r₁ ≡ Ok (Split k v n) → Settles T₁ T₂ S₁ S₂ h m i (k, v) n above r
-          → Descended pls T T₂ S S₂ h e above t r
+      pub step_split : (T₃ : Tables K V) (S₃ : Stock) (k : K) (v : V) (m : ℕ) (y : Result (InsertResult K V) Fault) → x ≡ Ok (Split k v m)
+          → Settles T₁ T₃ S₁ S₃ n.height n.node i (k, v) m above y → Descended pl T T₃ S S₃ n.height e above t y
       unfolding Settles
-      step_split T₂ S₂ k v n r p did =
-          split_up pls T T₁ S S₁ h e above t owns up p_at.0 T₂ S₂ k v n r
-          (subst (λ q. Descended pls T T₁ S S₁ (h - 1) e (above_child (length (row t)) above) (kid t (index (λ y. is_gt (pls y)) (row t))) q) p below)
-          (subst (λ j. Settles T₁ T₂ S₁ S₂ h (number t) j (k, v) n above r) p_at.1 (subst (λ x. Settles T₁ T₂ S₁ S₂ h x i (k, v) n above r) (sym at-m) did))
+      step_split T₃ S₃ k v m y p did =
+          let d = passed_at came in
+          split_up pl T T₁ S S₁ n.height e above t owns up d.0 T₃ S₃ k v m y
+          (subst (λ q. Descended pl T T₁ S S₁ (n.height - 1) e (above_child (length (row t)) above) (kid t at) q) p below)
+          (subst (λ j. Settles T₁ T₃ S₁ S₃ n.height (number t) j (k, v) m above y) d.1 (subst (λ a. Settles T₁ T₃ S₁ S₃ n.height a i (k, v) m above y) (sym at-m) did))

@@ -1,36 +1,35 @@
-use Rattle.std.proofs.Common.{◌<◌, ◌≤◌, length, Err, refl, ap, ◌∙◌, arith}
+use Rattle.std.proofs.Common.{◌<◌, ◌≤◌, length, Err, refl, ap, ◌∙◌, subst, arith}
 use Rattle.node.specs.Shape.{mk}
-use Rattle.node.specs.Store.{tables}
+use Rattle.node.specs.Operations.{Strange}
 use Rattle.node.proofs.Tabled.{err_not_ok, ok_same}
 use Rattle.std.proofs.lemmas.Result.{err_from_is_err_and}
 use Rattle.map.proofs.Seeking.{held_not_strange}
-use Rattle.rules.proofs.Branches.{held_mk}
 use Rattle.insertion.specs.Grew.{seated}
 use Rattle.insertion.specs.Descent.{Settles}
-use Rattle.insertion.proofs.Settled.{settled_fit, settled_full, retold}
+use Rattle.insertion.proofs.Settled.{held_long, settled_fit, settled_full, retold}
 use Rattle.insertion.proofs.descent.settle.Goals as goal
 
 pub returns-in_err-len : goal.returns-in_err-len
 unfolding Settles
 returns-in_err-len g c es ks new sized fits w others low comes owned =
-    absurd (held_not_strange (tables c.args.heads.now c.args.keys.now c.args.values.now) c.args.node.height c.args.node.node (mk c.args.node.node es (seated c.args.idx new ks)) sized w refl c.in_err-len.ensures)
+    absurd (held_not_strange (c.args.tables.now) c.args.node.height c.args.node.node (mk c.args.node.node es (seated c.args.idx new ks)) sized w refl (subst (λ T. Strange T c.args.node.node) c.as_tables.ensures c.in_err-len.ensures))
 
 pub returns-in_err-insert_fit : goal.returns-in_err-insert_fit
 unfolding Settles
 returns-in_err-insert_fit g c es ks new sized fits w others low comes owned =
-    let T = tables c.args.heads.now c.args.keys.now c.args.values.now in
-    let T' = tables c.insert_fit.new.heads c.insert_fit.new.keys c.insert_fit.new.values in
-    let b = (held_mk T c.args.node.height c.args.node.node es (seated c.args.idx new ks) w).body in
+    let T = c.args.tables.now in
+    let T' = c.insert_fit.new.tables in
+    let n = held_long T c.args.node.height c.args.node.node es (seated c.args.idx new ks) c.as_tables.ensures c.in_ok-len.ensures w in
     absurd (err_not_ok _ _ (settled_fit T T' (g.S.Supply.stock c.args.supply.now) c.args.node.height c.args.node.node c.args.idx (c.args.key, c.args.val) c.args.edge es ks new sized fits w others low comes owned
-    0 _ (omega (arith, c.if-len-lt-CAPACITY.true, c.in_ok-len.ensures.len_is, b.len_is)) c.in_err-insert_fit.ensures).0)
+    0 _ (omega (arith, c.if-len-lt-CAPACITY.true, n)) c.in_err-insert_fit.ensures).0)
 
 pub returns-then-len-lt-CAPACITY : goal.returns-then-len-lt-CAPACITY
 unfolding Settles
 returns-then-len-lt-CAPACITY g c es ks new sized fits w others low comes owned =
-    let T = tables c.args.heads.now c.args.keys.now c.args.values.now in
-    let T' = tables c.insert_fit.new.heads c.insert_fit.new.keys c.insert_fit.new.values in
-    let b = (held_mk T c.args.node.height c.args.node.node es (seated c.args.idx new ks) w).body in
-    let l : length es < 11 = omega (arith, c.if-len-lt-CAPACITY.true, c.in_ok-len.ensures.len_is, b.len_is) in
+    let T = c.args.tables.now in
+    let T' = c.insert_fit.new.tables in
+    let n = held_long T c.args.node.height c.args.node.node es (seated c.args.idx new ks) c.as_tables.ensures c.in_ok-len.ensures w in
+    let l : length es < 11 = omega (arith, c.if-len-lt-CAPACITY.true, n) in
     record {
       fits = λ _ fresh. (settled_fit T T' (g.S.Supply.stock c.args.supply.now) c.args.node.height c.args.node.node c.args.idx (c.args.key, c.args.val) c.args.edge es ks new sized fits w others low comes owned
           fresh _ l c.in_ok-insert_fit.ensures).1;
@@ -41,9 +40,9 @@ returns-then-len-lt-CAPACITY g c es ks new sized fits w others low comes owned =
 pub returns-in_err-right : goal.returns-in_err-right
 unfolding Settles
 returns-in_err-right g c es ks new sized fits w others low comes owned =
-    let T = tables c.args.heads.now c.args.keys.now c.args.values.now in
-    let b = (held_mk T c.args.node.height c.args.node.node es (seated c.args.idx new ks) w).body in
-    let l : 11 ≤ length es = omega (arith, c.if-len-lt-CAPACITY.false, c.in_ok-len.ensures.len_is, b.len_is) in
+    let T = c.args.tables.now in
+    let n = held_long T c.args.node.height c.args.node.node es (seated c.args.idx new ks) c.as_tables.ensures c.in_ok-len.ensures w in
+    let l : 11 ≤ length es = omega (arith, c.if-len-lt-CAPACITY.false, n) in
     let d = c.in_err-right.ensures in
     record {
       fits = λ f _. absurd (omega arith);
@@ -58,20 +57,20 @@ returns-in_err-right g c es ks new sized fits w others low comes owned =
 pub returns-in_err-k : goal.returns-in_err-k
 unfolding Settles
 returns-in_err-k g c es ks new sized fits w others low comes owned =
-    let T = tables c.args.heads.now c.args.keys.now c.args.values.now in
-    let T' = tables c.insert_full.new.heads c.insert_full.new.keys c.insert_full.new.values in
-    let b = (held_mk T c.args.node.height c.args.node.node es (seated c.args.idx new ks) w).body in
-    let l : 11 ≤ length es = omega (arith, c.if-len-lt-CAPACITY.false, c.in_ok-len.ensures.len_is, b.len_is) in
+    let T = c.args.tables.now in
+    let T' = c.insert_full.new.tables in
+    let n = held_long T c.args.node.height c.args.node.node es (seated c.args.idx new ks) c.as_tables.ensures c.in_ok-len.ensures w in
+    let l : 11 ≤ length es = omega (arith, c.if-len-lt-CAPACITY.false, n) in
     absurd (err_not_ok _ _ (settled_full T T' (g.S.Supply.stock c.args.supply.now) c.args.node.height c.args.node.node c.args.idx (c.args.key, c.args.val) c.args.edge es ks new sized fits w others low comes owned
     (g.S.Supply.stock c.take_for.new.supply) c.in_ok-right.right _ l c.in_ok-right.ensures.0 c.in_err-k.ensures.left c.in_err-k.ensures.right).0)
 
 pub returns : goal.returns
 unfolding Settles
 returns g c es ks new sized fits w others low comes owned =
-    let T = tables c.args.heads.now c.args.keys.now c.args.values.now in
-    let T' = tables c.insert_full.new.heads c.insert_full.new.keys c.insert_full.new.values in
-    let b = (held_mk T c.args.node.height c.args.node.node es (seated c.args.idx new ks) w).body in
-    let l : 11 ≤ length es = omega (arith, c.if-len-lt-CAPACITY.false, c.in_ok-len.ensures.len_is, b.len_is) in
+    let T = c.args.tables.now in
+    let T' = c.insert_full.new.tables in
+    let n = held_long T c.args.node.height c.args.node.node es (seated c.args.idx new ks) c.as_tables.ensures c.in_ok-len.ensures w in
+    let l : 11 ≤ length es = omega (arith, c.if-len-lt-CAPACITY.false, n) in
     let d = settled_full T T' (g.S.Supply.stock c.args.supply.now) c.args.node.height c.args.node.node c.args.idx (c.args.key, c.args.val) c.args.edge es ks new sized fits w others low comes owned
     (g.S.Supply.stock c.take_for.new.supply) c.in_ok-right.right _ l c.in_ok-right.ensures.0 c.in_ok-k.ensures.left c.in_ok-k.ensures.right in
     record {
