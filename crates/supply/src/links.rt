@@ -7,6 +7,7 @@ ghost use Rattle.supply.specs.Rows.{Below, Unused, Apart, Rising, TookFirst, Put
 ghost use Rattle.supply.specs.StockLaws.{links_sound};
 
 use crate::{Fault, Supply, kept_size};
+use std::array;
 
 /// The link of a number that is out.
 const OUT: u16 = 65535;
@@ -30,11 +31,7 @@ pub struct Chain {
 fn rising() -> [u16; 4096]
     ensures { Rising result 4096 }
 {
-    let mut links = [0; 4096];
-    for i in 0..4096usize {
-        links[i] = i as u16 + 1;
-    }
-    links
+    array::from_fn(|i| i as u16 + 1)
 }
 
 impl Chain {
@@ -65,10 +62,7 @@ impl Supply for Chain {
         ensures row { let s = self.old in let t = self.new in TookFirst (row_of s.links s.head s.left) (row_of t.links t.head t.left) result }
     {
         if self.left == 0 {
-            return Err(Fault::Short {
-                needed: 1,
-                allowance: 0,
-            });
+            return Err(Fault::NONE_LEFT);
         }
         let node = self.head;
         self.head = self.links[node as usize];
