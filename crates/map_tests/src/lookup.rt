@@ -26,7 +26,17 @@ fn tree(heads: &mut [Head], keys: &mut [BlendNumber], values: &mut [u32]) -> Res
         Leaf { node: 0 }.insert_fit(heads, keys, values, idx, BlendNumber::from(key), key * 10)?;
     }
     let leaf = NodeRef { node: 0, height: 0 };
-    let (key, value) = insert_full(heads, keys, values, leaf, 6, BlendNumber::from(13), 130, 0, 1)?;
+    let (key, value) = insert_full(
+        heads,
+        keys,
+        values,
+        leaf,
+        6,
+        BlendNumber::from(13),
+        130,
+        0,
+        1,
+    )?;
     push_level(heads, 0, 2)?;
     Internal { node: 2, height: 1 }.insert_fit(heads, keys, values, 0, key, value, 1)?;
     Ok(())

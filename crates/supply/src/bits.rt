@@ -7,7 +7,7 @@ ghost use Rattle.supply.specs.StockLaws.{bits_sound};
 
 use crate::{Fault, MOST, Supply, kept_size};
 
-const WORDS: usize = 64;
+const WORDS: usize = MOST as usize / 64;
 
 /// One bit for each number, set where it is out. The bits past the size are clear.
 #[derive(Drop)]

@@ -6,7 +6,7 @@ ghost use Rattle.supply.specs.Stocks.{Taken, GivenBack, fresh, kept_size, marked
 ghost use Rattle.supply.specs.Rows.{Below, Unused, Apart, Rising, TookFirst, PutFirst, row_of, link_marks, link_stock};
 ghost use Rattle.supply.specs.StockLaws.{links_sound};
 
-use crate::{Fault, Supply, kept_size};
+use crate::{Fault, MOST, Supply, kept_size};
 use std::array;
 
 /// The link of a number that is out.
@@ -18,7 +18,7 @@ pub struct Chain {
     size: u16,
     left: u16,
     head: u16,
-    links: [u16; 4096],
+    links: [u16; MOST as usize],
     ghost fits: { size ≤ 4096 },
     ghost counts: { left + marked (link_marks size links) ≡ size },
     ghost inner: { head < 65535 },
@@ -28,7 +28,7 @@ pub struct Chain {
 }
 
 /// Each number with a link to the next.
-fn rising() -> [u16; 4096]
+fn rising() -> [u16; MOST as usize]
     ensures { Rising result 4096 }
 {
     array::from_fn(|i| i as u16 + 1)
