@@ -2,24 +2,15 @@
 
 use order::blend::BlendNumber;
 use order::keys::{KeyOrder, Placing};
-use order::mark::{LotMark, MarkPart};
+use order::mark::{LotMark, MarkPart, TooLong};
 use order::rows::rises;
 use order::search::{SearchResult, search_linear, search_node};
 use order::stamp::BatchStamp;
 use std::cmp::Ordering;
+use std::test::Fail;
 
 fn mark(bytes: &[u8]) -> LotMark {
-    let mut mark = LotMark::empty();
-    let _ = mark.set(bytes);
-    mark
-}
-
-fn blend(number: u32) -> BlendNumber {
-    BlendNumber { number }
-}
-
-fn stamp(day: u32, number: u16) -> BatchStamp {
-    BatchStamp { day, number }
+    LotMark::try_from(bytes).unwrap_or(LotMark::empty())
 }
 
 #[test]
@@ -36,6 +27,19 @@ fn a_mark_takes_up_to_twelve_bytes(rt: HostRuntime) {
     assert_eq!(rt; mark.set(b""), true);
     assert_eq!(rt; mark.len, 0);
     assert_eq!(rt; mark.cells, [0; 12]);
+}
+
+#[test]
+fn more_bytes_make_no_mark(rt: HostRuntime) -> Result<(), Fail> {
+    let alloc = rt.alloc();
+    let thirteen: &[u8] = b"ABCDEFGHIJKLM";
+    let error = TooLong { len: 13 };
+    assert_eq!(rt; LotMark::try_from(thirteen).err(), Some(error));
+    assert_eq!(rt;
+        format!(in alloc; "{error}")?.as_str(),
+        "13 bytes, and a mark holds at most 12"
+    );
+    Ok(())
 }
 
 #[test]
@@ -68,71 +72,65 @@ fn marks_go_byte_by_byte(rt: HostRuntime) {
 fn a_part_may_be_longer_than_a_mark(rt: HostRuntime) {
     let text: &[u8] = b"lot ABCDEFGHIJKLM";
     let keys = [mark(b"ABCDEFGHIJKL"), mark(b"ABCDEFGHIJL")];
-    let thirteen = MarkPart {
-        bytes: &text[4..17],
-    };
+    let thirteen = MarkPart::from(&text[4..17]);
     assert_eq!(rt; thirteen.place(&keys[0]), Ordering::Greater);
     assert_eq!(rt; search_linear(&keys, &thirteen), (1, false));
     assert_eq!(rt;
-        search_linear(
-            &keys,
-            &MarkPart {
-                bytes: &text[4..16],
-            },
-        ),
+        search_linear(&keys, &MarkPart::from(&text[4..16])),
         (0, true)
     );
     assert_eq!(rt;
-        search_linear(&keys, &MarkPart { bytes: &text[0..0] }),
+        search_linear(&keys, &MarkPart::from(&text[0..0])),
         (0, false)
     );
 }
 
 #[test]
 fn stamps_go_by_day_and_then_number(rt: HostRuntime) {
-    assert_eq!(rt; stamp(0, u16::MAX).compare(&stamp(1, 0)), Ordering::Less);
-    assert_eq!(rt;
-        stamp(u32::MAX, 0).compare(&stamp(u32::MAX - 1, u16::MAX)),
-        Ordering::Greater
-    );
-    assert_eq!(rt; stamp(7, 1).compare(&stamp(7, 2)), Ordering::Less);
-    assert_eq!(rt;
-        stamp(u32::MAX, u16::MAX).compare(&stamp(u32::MAX, u16::MAX)),
-        Ordering::Equal
-    );
+    let pairs = [
+        ((0, u16::MAX), (1, 0), Ordering::Less),
+        ((u32::MAX, 0), (u32::MAX - 1, u16::MAX), Ordering::Greater),
+        ((7, 1), (7, 2), Ordering::Less),
+        ((u32::MAX, u16::MAX), (u32::MAX, u16::MAX), Ordering::Equal),
+    ];
+    for (a, b, order) in pairs {
+        assert_eq!(rt; BatchStamp::from(a).compare(&BatchStamp::from(b)), order);
+    }
 }
 
 #[test]
 fn a_search_counts_its_comparisons(rt: HostRuntime) {
-    let keys = [blend(10), blend(20), blend(30)];
+    let keys = [10, 20, 30].map(BlendNumber::from);
     assert_eq!(rt;
-        search_node(&keys[0..0], &blend(1)),
+        search_node(&keys[0..0], &BlendNumber::from(1)),
         (SearchResult::GoDown(0), 0)
     );
-    assert_eq!(rt; search_node(&keys, &blend(5)), (SearchResult::GoDown(0), 1));
-    assert_eq!(rt; search_node(&keys, &blend(10)), (SearchResult::Found(0), 1));
-    assert_eq!(rt;
-        search_node(&keys, &blend(15)),
-        (SearchResult::GoDown(1), 2)
-    );
-    assert_eq!(rt; search_node(&keys, &blend(20)), (SearchResult::Found(1), 2));
-    assert_eq!(rt;
-        search_node(&keys, &blend(25)),
-        (SearchResult::GoDown(2), 3)
-    );
-    assert_eq!(rt; search_node(&keys, &blend(30)), (SearchResult::Found(2), 3));
-    assert_eq!(rt;
-        search_node(&keys, &blend(35)),
-        (SearchResult::GoDown(3), 3)
-    );
+    let answers = [
+        (5, SearchResult::GoDown(0), 1),
+        (10, SearchResult::Found(0), 1),
+        (15, SearchResult::GoDown(1), 2),
+        (20, SearchResult::Found(1), 2),
+        (25, SearchResult::GoDown(2), 3),
+        (30, SearchResult::Found(2), 3),
+        (35, SearchResult::GoDown(3), 3),
+    ];
+    for (query, result, comparisons) in answers {
+        assert_eq!(rt;
+            search_node(&keys, &BlendNumber::from(query)),
+            (result, comparisons)
+        );
+    }
 }
 
 #[test]
 fn a_row_out_of_order_stops_at_the_first_not_below(rt: HostRuntime) {
-    let keys = [blend(20), blend(10), blend(30), blend(10)];
+    let keys = [20, 10, 30, 10].map(BlendNumber::from);
     assert_eq!(rt; rises(&keys), false);
     assert_eq!(rt; rises(&keys[1..3]), true);
-    assert_eq!(rt; search_linear(&keys, &blend(10)), (0, false));
-    assert_eq!(rt; search_linear(&keys, &blend(25)), (2, false));
-    assert_eq!(rt; search_linear(&keys[1..4], &blend(30)), (1, true));
+    assert_eq!(rt; search_linear(&keys, &BlendNumber::from(10)), (0, false));
+    assert_eq!(rt; search_linear(&keys, &BlendNumber::from(25)), (2, false));
+    assert_eq!(rt;
+        search_linear(&keys[1..4], &BlendNumber::from(30)),
+        (1, true)
+    );
 }

@@ -4,12 +4,7 @@ use std::process::Abort;
 use std::test::Fail;
 use supply::bits::Bitmap;
 use supply::links::Chain;
-use supply::{Fault, Supply, drain, take_two};
-
-const NONE_LEFT: Fault = Fault::Short {
-    needed: 1,
-    allowance: 0,
-};
+use supply::{Fault, Supply, drain, spare, take_two};
 
 /// A new supply of `size` numbers is taken from until it refuses.
 fn exhaust<S: Supply>(rt: &impl Abort, supply: &mut S, size: u16) -> Result<(), Fail> {
@@ -21,7 +16,7 @@ fn exhaust<S: Supply>(rt: &impl Abort, supply: &mut S, size: u16) -> Result<(), 
     }
     assert_eq!(rt; supply.allowance(), 0);
     assert_eq!(rt; supply.out_count(), size);
-    assert_eq!(rt; supply.take(), Err(NONE_LEFT));
+    assert_eq!(rt; supply.take(), Err(Fault::NONE_LEFT));
     assert_eq!(rt; supply.out_count(), size);
     assert_eq!(rt; supply.is_out(size), false);
     assert_eq!(rt; supply.give_back(size), Err(Fault::Breach));
@@ -49,7 +44,7 @@ fn give_back_twice<S: Supply>(rt: &impl Abort, supply: &mut S) {
     assert_eq!(rt; supply.give_back(64), Err(Fault::Breach));
     assert_eq!(rt; supply.allowance(), 1);
     assert_eq!(rt; supply.take(), Ok(64));
-    assert_eq!(rt; supply.take(), Err(NONE_LEFT));
+    assert_eq!(rt; supply.take(), Err(Fault::NONE_LEFT));
 }
 
 #[test]
@@ -66,6 +61,8 @@ fn two_of_three<S: Supply>(rt: &impl Abort, supply: &mut S) {
         allowance: 1,
     };
     assert_eq!(rt; take_two(supply), Err(short));
+    assert_eq!(rt; spare(supply, 2), Err(short));
+    assert_eq!(rt; spare(supply, 1), Ok(()));
     assert_eq!(rt; supply.out_count(), 2);
     assert_eq!(rt; supply.take(), Ok(2));
 }

@@ -18,19 +18,25 @@ const FREE: Head = Head {
 
 const TOP: NodeRef = NodeRef { node: 2, height: 1 };
 
-fn blend(number: u32) -> BlendNumber {
-    BlendNumber { number }
-}
-
 /// The tree, with its root in node 2 and the leaves in 0 and 1.
 fn tree(heads: &mut [Head], keys: &mut [BlendNumber], values: &mut [u32]) -> Result<(), Fail> {
     new_leaf(heads, 0)?;
     for idx in 0..11usize {
         let key = idx as u32 * 2 + 2;
-        Leaf { node: 0 }.insert_fit(heads, keys, values, idx, blend(key), key * 10)?;
+        Leaf { node: 0 }.insert_fit(heads, keys, values, idx, BlendNumber::from(key), key * 10)?;
     }
     let leaf = NodeRef { node: 0, height: 0 };
-    let (key, value) = insert_full(heads, keys, values, leaf, 6, blend(13), 130, 0, 1)?;
+    let (key, value) = insert_full(
+        heads,
+        keys,
+        values,
+        leaf,
+        6,
+        BlendNumber::from(13),
+        130,
+        0,
+        1,
+    )?;
     push_level(heads, 0, 2)?;
     Internal { node: 2, height: 1 }.insert_fit(heads, keys, values, 0, key, value, 1)?;
     Ok(())
@@ -39,7 +45,7 @@ fn tree(heads: &mut [Head], keys: &mut [BlendNumber], values: &mut [u32]) -> Res
 #[test]
 fn answers_and_comparisons_are_the_originals(rt: HostRuntime) -> Result<(), Fail> {
     let mut heads = [FREE; 3];
-    let mut keys = [blend(0); 33];
+    let mut keys = [BlendNumber::from(0); 33];
     let mut values = [0u32; 33];
     tree(&mut heads, &mut keys, &mut values)?;
     assert_eq!(rt; (heads[2].len, heads[0].len, heads[1].len), (1, 7, 4));
@@ -57,7 +63,7 @@ fn answers_and_comparisons_are_the_originals(rt: HostRuntime) -> Result<(), Fail
     ];
     for (key, value, count) in expected {
         assert_eq!(rt;
-            search_tree(&heads, &keys, &values, TOP, &blend(key))?,
+            search_tree(&heads, &keys, &values, TOP, &BlendNumber::from(key))?,
             (value, count)
         );
     }
@@ -67,12 +73,12 @@ fn answers_and_comparisons_are_the_originals(rt: HostRuntime) -> Result<(), Fail
 #[test]
 fn a_value_is_replaced(rt: HostRuntime) -> Result<(), Fail> {
     let mut heads = [FREE; 3];
-    let mut keys = [blend(0); 33];
+    let mut keys = [BlendNumber::from(0); 33];
     let mut values = [0u32; 33];
     tree(&mut heads, &mut keys, &mut values)?;
     assert_eq!(rt; replace_value(&heads, &keys, &mut values, 0, 6, 7)?, 130);
     assert_eq!(rt;
-        search_tree(&heads, &keys, &values, TOP, &blend(13))?,
+        search_tree(&heads, &keys, &values, TOP, &BlendNumber::from(13))?,
         (Some(7), 8)
     );
     assert!(rt; replace_value(&heads, &keys, &mut values, 0, 7, 7).is_err());
@@ -83,9 +89,9 @@ fn a_value_is_replaced(rt: HostRuntime) -> Result<(), Fail> {
 #[test]
 fn strange_tables_end_a_lookup(rt: HostRuntime) {
     let heads = [FREE; 3];
-    let keys = [blend(0); 33];
-    assert!(rt; search_tree(&heads, &keys, &[0u32; 32], TOP, &blend(1)).is_err());
-    assert!(rt; search_tree(&heads, &keys, &[0u32; 33], TOP, &blend(1)).is_err());
+    let keys = [BlendNumber::from(0); 33];
+    assert!(rt; search_tree(&heads, &keys, &[0u32; 32], TOP, &BlendNumber::from(1)).is_err());
+    assert!(rt; search_tree(&heads, &keys, &[0u32; 33], TOP, &BlendNumber::from(1)).is_err());
     let high = NodeRef { node: 0, height: 6 };
-    assert!(rt; search_tree(&heads, &keys, &[0u32; 33], high, &blend(1)).is_err());
+    assert!(rt; search_tree(&heads, &keys, &[0u32; 33], high, &BlendNumber::from(1)).is_err());
 }

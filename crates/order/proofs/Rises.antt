@@ -1,11 +1,13 @@
 -- Rows of keys that rise. Assumes nothing.
 --     less_chain            below passes along
 --     rising_steps          it is enough that each key is below the next
+--     rising_decided        what says whether each key is below the next says whether the row rises
 --     rising_inserted       a key put where it belongs
 --     rising_stored         a key put where a search for it stopped and did not find it
 --     rising_removed        a key taken out
-use Rattle.std.proofs.Common.{◌≡◌, ℕ, zero, suc, ◌+◌, ◌-◌, ◌<◌, ◌≤◌, Bool, false, List, length, get_or, Ordering, Less, subst, add-one, arith}
-use Rattle.std.specs.List.{insert, remove}
+use Rattle.std.proofs.Common.{◌≡◌, ℕ, zero, suc, ◌+◌, ◌-◌, ◌<◌, ◌≤◌, Bool, true, false, List, [], ◌∷◌, length, get_or, Ordering, Less, Decides, refl, sym, ap, ◌∙◌, subst, add-one, true≢false, arith}
+use Rattle.std.specs.List.{insert, remove, IsAllAdjacentAnswer}
+use Rattle.std.specs.Ordering.{is_lt}
 use Rattle.std.proofs.lemmas.List.Edits.{length-insert, get_or-insert_below, get_or-insert_at, get_or-insert_above, length-remove, get_or-remove_below, get_or-remove_above}
 use Rattle.order.specs.Laws.{Ordered}
 use Rattle.order.specs.Found.{Parted}
@@ -32,6 +34,11 @@ module _ {K : Type 0} {cmp : K → K → Ordering} (o : Ordered cmp) where
       let h : i < j → cmp (get_or keys i d) (get_or keys j d) ≡ Less = λ l. rising_steps keys step i j d l (omega arith) in
       let t = less_chain (get_or keys i d) (get_or keys j d) (get_or keys (suc j) d) in
       grind arith
+
+  pub rising_decided : (keys : List K) (r : Bool) → IsAllAdjacentAnswer (λ x y b. b ≡ is_lt (cmp x y)) keys r → Decides r (Rising cmp keys)
+  rising_decided keys true below = (λ _. rising_steps keys (λ k d h. let b = below k d h in grind arith), λ _. refl)
+  rising_decided [] false (k, within, over) = absurd (omega arith)
+  rising_decided (x ∷ xs) false (k, within, over) = (λ e. absurd (true≢false (sym e)), λ up. over x ∙ ap is_lt (up k (k + 1) x (omega arith) within))
 
   pub rising_inserted : (keys : List K) (at : ℕ) (x : K) → at ≤ length keys → Rising cmp keys → ((k : ℕ) (d : K) → k < at → cmp (get_or keys k d) x ≡ Less) → ((k : ℕ) (d : K) → at ≤ k → k < length keys → cmp x (get_or keys k d) ≡ Less) → Rising cmp (insert keys at x)
   rising_inserted keys at x within up low high i j d lt inside =

@@ -3,8 +3,10 @@
 --     padded bytes      up to twelve bytes, followed by zeros to make twelve
 --     mark_of bytes     the mark that these bytes make
 --     empty_mark        the mark of no bytes: its length and its cells are zero
-use Rattle.std.specs.Prelude.{ℕ, ◌-◌, min, List, ◌++◌, length, take, replicate}
+--     Marked bytes r    up to twelve bytes made their mark, and more were refused by their number
+use Rattle.std.specs.Prelude.{◌≡◌, ℕ, ◌-◌, ◌<◌, ◌≤◌, min, List, ◌++◌, length, take, replicate, Result, MatchResult}
 use Rattle.order.specs.declared.mark.LotMark.{LotMark}
+use Rattle.order.specs.declared.mark.TooLong.{TooLong}
 
 abbrev pub used : LotMark → List ℕ
 used m = take (min m.len 12) m.cells
@@ -17,3 +19,15 @@ mark_of bytes = record { len = length bytes; cells = padded bytes }
 
 abbrev pub empty_mark : LotMark
 empty_mark = record { len = 0; cells = replicate 12 0 }
+
+pub record Fits (bytes : List ℕ) (m : LotMark) : Type 0 where
+  pub short : length bytes ≤ 12
+  pub made : m ≡ mark_of bytes
+  pub reads : used m ≡ bytes
+
+pub record Exceeds (bytes : List ℕ) (e : TooLong) : Type 0 where
+  pub long : 12 < length bytes
+  pub counts : e.len ≡ length bytes
+
+abbrev pub Marked : List ℕ → Result LotMark TooLong → Type 0
+Marked bytes r = MatchResult r (Fits bytes) (Exceeds bytes)

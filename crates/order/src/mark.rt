@@ -2,22 +2,24 @@
 
 ghost use Rattle.std.specs.Prelude.{◌≡◌, ◌≤◌, true, length, if◌then◌else◌, nat_le};
 ghost use Rattle.std.specs.Cmp.Lexicographic.{slice_cmp, lists_total};
-ghost use Rattle.order.specs.Marks.{used, padded, mark_of, empty_mark};
+ghost use Rattle.order.specs.Marks.{used, padded, mark_of, empty_mark, Marked};
 ghost use Rattle.std.specs.Ordering.{nat_cmp};
 ghost use Rattle.std.specs.Cmp.{nat_cmp_total};
 ghost use Rattle.order.specs.Among.{from_total, viewed, viewed_placed, viewed_pointed};
 
 use crate::keys::{KeyOrder, Placing, PointQuery, Query};
 use std::cmp::Ordering;
+use std::error::Error;
 use std::fmt;
 
-const MOST: u8 = 12;
+/// The most bytes that a mark holds.
+const MOST: usize = 12;
 
 /// Any length and any cells make a mark: a length above twelve counts as twelve, and the cells past the length count as zero.
 #[derive(Clone, Copy)]
 pub struct LotMark {
     pub len: u8,
-    pub cells: [u8; 12],
+    pub cells: [u8; MOST],
 }
 
 impl LotMark {
@@ -27,7 +29,7 @@ impl LotMark {
     {
         LotMark {
             len: 0,
-            cells: [0; 12],
+            cells: [0; MOST],
         }
     }
 
@@ -37,70 +39,103 @@ impl LotMark {
         ensures after { self.new ≡ (if result then mark_of bytes.now else self.old) }
         ensures reads { result ≡ true → used self.new ≡ bytes.now }
     {
-        if bytes.len() > MOST as usize {
-            return false;
+        match LotMark::try_from(bytes) {
+            Ok(mark) => {
+                *self = mark;
+                true
+            }
+            Err(_) => false,
         }
-        *self = LotMark {
-            len: bytes.len() as u8,
-            cells: with_zeros(bytes),
-        };
-        true
     }
 
     /// The bytes that count.
     pub fn bytes(&self) -> &[u8]
         ensures { result.now ≡ used self.now }
     {
-        let len = self.len.min(MOST) as usize;
-        &self.cells[0..len]
+        let len = usize::from(self.len).min(MOST);
+        &self.cells[..len]
     }
 
     /// The bytes that count, followed by zeros.
-    pub fn cells(&self) -> [u8; 12]
+    pub fn cells(&self) -> [u8; MOST]
         ensures { result ≡ padded (used self.now) }
     {
         with_zeros(self.bytes())
     }
 }
 
+/// Bytes that are too many for a mark.
+#[derive(Clone, Copy, PartialEq, Eq, Debug)]
+pub struct TooLong {
+    pub len: usize,
+}
+
+/// The mark of up to twelve bytes.
+impl TryFrom<&[u8]> for LotMark {
+    type Error = TooLong;
+
+    ghost try_from_gives = { λ bytes r. Marked bytes.now r };
+
+    fn try_from(bytes: &[u8]) -> Result<LotMark, TooLong> {
+        let len = bytes.len();
+        if len > MOST {
+            return Err(TooLong { len });
+        }
+        Ok(LotMark {
+            len: len as u8,
+            cells: with_zeros(bytes),
+        })
+    }
+}
+
+impl fmt::Display for TooLong {
+    fn fmt<W: fmt::Write>(&self, f: &mut fmt::Formatter<W>) -> fmt::Result {
+        write!(f, "{} bytes, and a mark holds at most {MOST}", self.len)
+    }
+}
+
+impl Error for TooLong {}
+
 /// Up to twelve bytes, followed by zeros.
-fn with_zeros(bytes: &[u8]) -> [u8; 12]
+fn with_zeros(bytes: &[u8]) -> [u8; MOST]
     requires { length bytes.now ≤ 12 }
     ensures { result ≡ padded bytes.now }
 {
-    let mut cells = [0; 12];
-    cells[0..bytes.len()].copy_from_slice(bytes);
+    let mut cells = [0; MOST];
+    cells[..bytes.len()].copy_from_slice(bytes);
     cells
 }
 
-/// Byte by byte, with a proper prefix first; both at one lifetime.
-fn by_bytes<'x>(a: &'x [u8], b: &'x [u8]) -> Ordering
-    ensures { result ≡ slice_cmp nat_cmp a.now b.now }
-{
-    Ord::cmp(&a, &b)
-}
-
+/// Byte by byte, with a proper prefix first.
 impl KeyOrder for LotMark {
     ghost compares = { λ a b. slice_cmp nat_cmp (used a) (used b) };
 
     ghost ordered = { viewed (from_total (lists_total nat_cmp_total)) used };
 
     fn compare(&self, other: &Self) -> Ordering {
-        by_bytes(self.bytes(), other.bytes())
+        self.bytes().cmp(other.bytes())
     }
 }
 
 /// A part of a caller's bytes, of any length, that is looked for as a mark.
-#[derive(Clone, Copy)]
+#[derive(Clone, Copy, PartialEq, Eq, Debug)]
 pub struct MarkPart<'a> {
     pub bytes: &'a [u8],
+}
+
+impl<'a> From<&'a [u8]> for MarkPart<'a> {
+    ghost from_gives = { λ bytes part. part.bytes.now ≡ bytes.now };
+
+    fn from(bytes: &'a [u8]) -> MarkPart<'a> {
+        MarkPart { bytes }
+    }
 }
 
 impl Placing<LotMark> for MarkPart<'_> {
     ghost places = { λ q k. slice_cmp nat_cmp q.bytes.now (used k) };
 
     fn place(&self, key: &LotMark) -> Ordering {
-        by_bytes(self.bytes, key.bytes())
+        self.bytes.cmp(key.bytes())
     }
 }
 
@@ -114,7 +149,6 @@ impl PointQuery<LotMark> for MarkPart<'_> {
 
 impl fmt::Display for MarkPart<'_> {
     fn fmt<W: fmt::Write>(&self, f: &mut fmt::Formatter<W>) -> fmt::Result {
-        let text = self.bytes.escape_ascii();
-        write!(f, "\"{text}\"")
+        write!(f, "\"{}\"", self.bytes.escape_ascii())
     }
 }

@@ -46,11 +46,7 @@ pub fn search_node<K: KeyOrder, Q: Query<K>>(keys: &[K], query: &Q) -> (SearchRe
     ensures strict { Pointed K.KeyOrder.compares Q.Placing.places → Rising K.KeyOrder.compares keys.now → Strict Q.Placing.places keys.now query.now (index_of result.0) }
 {
     let (index, found) = search_linear(keys, query);
-    let made = if index < keys.len() {
-        index + 1
-    } else {
-        keys.len()
-    };
+    let made = index.saturating_add(1).min(keys.len());
     let result = if found {
         SearchResult::Found(index)
     } else {

@@ -21,10 +21,11 @@ pub enum Dose {
 
 impl fmt::Display for BatchRecord {
     fn fmt<W: fmt::Write>(&self, f: &mut fmt::Formatter<W>) -> fmt::Result {
-        let blend = self.blend;
-        let grams = self.grams;
-        let hopper = self.hopper;
-        write!(f, "blend {blend}, {grams} g, hopper {hopper}")
+        write!(
+            f,
+            "blend {}, {} g, hopper {}",
+            self.blend, self.grams, self.hopper
+        )
     }
 }
 

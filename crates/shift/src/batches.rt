@@ -60,20 +60,20 @@ pub fn print_lookups<
     } else {
         "out of order"
     };
-    let count = row.keys.len();
-    println!(rt; "{title}, {count} keys {order}")?;
+    println!(rt; "{title}, {} keys {order}", row.keys.len())?;
     for query in queries {
-        let answer = row.look_up(query);
-        println!(rt; "  {query}: {answer}")?;
+        println!(rt; "  {query}: {}", row.look_up(query))?;
     }
     Ok(())
 }
 
 impl<V: fmt::Display> fmt::Display for Lookup<V> {
     fn fmt<W: fmt::Write>(&self, f: &mut fmt::Formatter<W>) -> fmt::Result {
-        let index = self.index;
-        let comparisons = self.comparisons;
-        write!(f, "index {index}, comparisons {comparisons}, ")?;
+        write!(
+            f,
+            "index {}, comparisons {}, ",
+            self.index, self.comparisons
+        )?;
         match &self.value {
             Some(value) => write!(f, "found {value}"),
             None => write!(f, "not found"),

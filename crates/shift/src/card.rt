@@ -68,8 +68,7 @@ pub fn print_laid_in<S: Supply>(
     supply: &S,
 ) -> io::Result<()> {
     let tally = Tally::of(supply);
-    let size = tally.size;
-    println!(rt; "  {kind} of {asked}: size {size}, {tally}")
+    println!(rt; "  {kind} of {asked}: size {}, {tally}", tally.size)
 }
 
 /// Runs the errands in turn, and prints what came of each and the counts after it.
@@ -79,8 +78,7 @@ pub fn print_errands<S: Supply>(
     supply: &mut S,
     errands: &[Errand],
 ) -> io::Result<()> {
-    let size = supply.size();
-    println!(rt; "The morning, from a {kind} of {size}")?;
+    println!(rt; "The morning, from a {kind} of {}", supply.size())?;
     for errand in errands {
         let came = run(supply, *errand);
         let tally = Tally::of(supply);
@@ -114,8 +112,6 @@ impl fmt::Display for Handed {
 
 impl fmt::Display for Tally {
     fn fmt<W: fmt::Write>(&self, f: &mut fmt::Formatter<W>) -> fmt::Result {
-        let free = self.free;
-        let out = self.out;
-        write!(f, "{free} free, {out} out")
+        write!(f, "{} free, {} out", self.free, self.out)
     }
 }

@@ -40,23 +40,11 @@ pub fn supplies(rt: &impl Print) -> io::Result<()> {
     print_errands(rt, "bitmap", &mut Bitmap::new(5), &MORNING)
 }
 
-fn stamp(day: u32, number: u16) -> BatchStamp
-    ensures { (result.day ≡ day) × (result.number ≡ number) }
-{
-    BatchStamp { day, number }
-}
-
-fn blend(number: u32) -> BlendNumber
-    ensures { result.number ≡ number }
-{
-    BlendNumber { number }
-}
-
 fn batch(number: u32, grams: u32, hopper: u8) -> BatchRecord
     ensures { (result.blend.number ≡ number) × (result.grams ≡ grams) × (result.hopper ≡ hopper) }
 {
     BatchRecord {
-        blend: blend(number),
+        blend: BlendNumber::from(number),
         grams,
         hopper,
     }
@@ -66,20 +54,13 @@ fn batch(number: u32, grams: u32, hopper: u8) -> BatchRecord
 fn mark(bytes: &[u8]) -> LotMark
     ensures { result ≡ (if nat_le (length bytes.now) 12 then mark_of bytes.now else empty_mark) }
 {
-    let mut mark = LotMark::empty();
-    let _ = mark.set(bytes);
-    mark
+    LotMark::try_from(bytes).unwrap_or(LotMark::empty())
 }
 
 /// The day's batches, looked up by stamp.
 pub fn batches_by_stamp(rt: &impl Print) -> io::Result<()> {
     let row = Row {
-        keys: [
-            stamp(20774, 1),
-            stamp(20774, 2),
-            stamp(20774, 4),
-            stamp(20775, 1),
-        ],
+        keys: [(20774, 1), (20774, 2), (20774, 4), (20775, 1)].map(BatchStamp::from),
         values: [
             batch(17, 240000, 2),
             batch(9, 85500, 1),
@@ -88,12 +69,13 @@ pub fn batches_by_stamp(rt: &impl Print) -> io::Result<()> {
         ],
     };
     let queries = [
-        stamp(20773, 65535),
-        stamp(20774, 2),
-        stamp(20774, 3),
-        stamp(20775, 1),
-        stamp(20775, 2),
-    ];
+        (20773, 65535),
+        (20774, 2),
+        (20774, 3),
+        (20775, 1),
+        (20775, 2),
+    ]
+    .map(BatchStamp::from);
     print_lookups(rt, "Batches by stamp", &row, &queries)
 }
 
@@ -115,32 +97,27 @@ pub fn doses_by_mark(rt: &impl Print) -> io::Result<()> {
     };
     let line: &[u8] = b"AS-0417 KE-22 NILGIRI-2026 NILGIRI-2026B";
     let queries = [
-        MarkPart { bytes: &line[0..7] },
-        MarkPart { bytes: &line[0..6] },
-        MarkPart {
-            bytes: &line[8..13],
-        },
-        MarkPart {
-            bytes: &line[14..26],
-        },
-        MarkPart {
-            bytes: &line[27..40],
-        },
-        MarkPart { bytes: &line[7..7] },
-    ];
+        &line[0..7],
+        &line[0..6],
+        &line[8..13],
+        &line[14..26],
+        &line[27..40],
+        &line[7..7],
+    ]
+    .map(MarkPart::from);
     print_lookups(rt, "Doses by lot mark", &row, &queries)
 }
 
 /// The last batch of each blend, looked up by the blend's number.
 pub fn last_batches_by_blend(rt: &impl Print) -> io::Result<()> {
     let row = Row {
-        keys: [blend(4), blend(9), blend(17)],
+        keys: [4, 9, 17].map(BlendNumber::from),
         values: [
             batch(4, 120750, 2),
             batch(9, 85500, 1),
             batch(17, 240000, 3),
         ],
     };
-    let queries = [blend(3), blend(9), blend(10), blend(17), blend(4294967295)];
+    let queries = [3, 9, 10, 17, 4294967295].map(BlendNumber::from);
     print_lookups(rt, "Last batches by blend", &row, &queries)
 }

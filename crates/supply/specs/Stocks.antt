@@ -10,6 +10,7 @@
 --   Sound       no more may be taken than are not out, and a number fits 16 bits
 --   Taken       what `take` does: a number is Given, or the call is Refused
 --   GivenBack   what `give_back` does: the number is Returned, or the call is Declined
+--   Spared      what `spare` does: the allowance is at least what is needed, or the call is refused and says how much there is
 --   TakenTwo    what `take_two` does: two numbers are given, or the call is refused
 --   Drained     what `drain` does
 -- Where nothing has changed, one equation says so: the stock after is the stock before.
@@ -91,6 +92,11 @@ pub record Declined (before after : Stock) (n : ℕ) (fault : Fault) : Type 0 wh
 
 abbrev pub GivenBack : Stock → Stock → ℕ → Result (Unit {0}) Fault → Type 0
 GivenBack before after n r = MatchResult r (λ _. Returned before after n) (Declined before after n)
+
+-- ---- spare
+
+abbrev pub Spared : Stock → ℕ → Result (Unit {0}) Fault → Type 0
+Spared s needed r = MatchResult r (λ _. needed ≤ s.allowance) (λ fault. (s.allowance < needed) × (fault ≡ Short needed s.allowance))
 
 -- ---- take_two
 

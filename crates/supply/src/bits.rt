@@ -7,13 +7,13 @@ ghost use Rattle.supply.specs.StockLaws.{bits_sound};
 
 use crate::{Fault, MOST, Supply, kept_size};
 
-const WORDS: usize = 64;
+const WORDS: usize = MOST as usize / 64;
 
 /// One bit for each number, set where it is out. The bits past the size are clear.
 #[derive(Drop)]
 pub struct Bitmap {
     size: u16,
-    words: [u64; 64],
+    words: [u64; WORDS],
     ghost fits: { size ≤ 4096 },
     ghost clear: { marked (drop size (spread words)) ≡ 0 },
 }
@@ -26,7 +26,7 @@ impl Bitmap {
         let size = kept_size(size);
         Bitmap {
             size,
-            words: [0; 64],
+            words: [0; WORDS],
         }
     }
 
@@ -34,11 +34,8 @@ impl Bitmap {
     fn ones(&self) -> u16
         ensures { result ≡ marked (spread self.now.words) }
     {
-        let mut sum: u16 = 0;
-        for w in self.words.iter() {
-            sum += w.count_ones() as u16;
-        }
-        sum
+        let words = self.words.as_slice();
+        words.iter().map(|w| w.count_ones() as u16).sum()
     }
 
     /// The lowest number whose bit is clear, or `MOST`.
@@ -47,8 +44,8 @@ impl Bitmap {
         ensures before { (k : ℕ) → k < result → slice_index_or (spread self.now.words) k false ≡ true }
         ensures here { slice_index_or (spread self.now.words) result false ≡ false }
     {
-        for i in 0..WORDS {
-            let unused = !self.words[i];
+        for (i, word) in self.words.iter().enumerate() {
+            let unused = !*word;
             if unused != 0 {
                 return (i * 64) as u16 + unused.trailing_zeros() as u16;
             }
@@ -86,10 +83,7 @@ impl Supply for Bitmap {
     {
         let node = self.lowest();
         if node >= self.size {
-            return Err(Fault::Short {
-                needed: 1,
-                allowance: 0,
-            });
+            return Err(Fault::NONE_LEFT);
         }
         self.flip(node);
         Ok(node)

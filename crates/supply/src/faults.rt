@@ -11,6 +11,14 @@ pub enum Fault {
     Short { needed: u16, allowance: u16 },
 }
 
+impl Fault {
+    /// One number is asked for, and none may be taken.
+    pub const NONE_LEFT: Fault = Fault::Short {
+        needed: 1,
+        allowance: 0,
+    };
+}
+
 impl fmt::Display for Fault {
     fn fmt<W: fmt::Write>(&self, f: &mut fmt::Formatter<W>) -> fmt::Result {
         match self {

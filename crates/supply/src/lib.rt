@@ -2,7 +2,7 @@
 #![tactic(auto)]
 
 ghost use Rattle.std.specs.Prelude.{◌≡◌};
-ghost use Rattle.supply.specs.Stocks.{Stock, size_of, is_out, outs_of, kept_size, Sound, Taken, GivenBack, TakenTwo, Drained};
+ghost use Rattle.supply.specs.Stocks.{Stock, size_of, is_out, outs_of, kept_size, Sound, Taken, GivenBack, Spared, TakenTwo, Drained};
 
 pub mod bits;
 pub mod faults;
@@ -52,25 +52,23 @@ pub trait Supply {
     ghost sound: { (s : Self) → Sound (stock s) };
 }
 
-/// Two numbers, or none: where only one can be had, it goes back.
+/// Refuses exactly where the allowance is below `needed`.
+pub fn spare<S: Supply>(supply: &S, needed: u16) -> Result<(), Fault>
+    ensures { Spared (S.stock supply.now) needed result }
+{
+    let allowance = supply.allowance();
+    if allowance < needed {
+        return Err(Fault::Short { needed, allowance });
+    }
+    Ok(())
+}
+
+/// Two numbers, or none where fewer than two may be taken.
 pub fn take_two<S: Supply>(supply: &mut S) -> Result<(u16, u16), Fault>
     ensures { TakenTwo (S.stock supply.old) (S.stock supply.new) result }
 {
-    let allowance = supply.allowance();
-    let short = Fault::Short {
-        needed: 2,
-        allowance,
-    };
-    let Ok(first) = supply.take() else {
-        return Err(short);
-    };
-    match supply.take() {
-        Ok(second) => Ok((first, second)),
-        Err(_) => {
-            supply.give_back(first)?;
-            Err(short)
-        }
-    }
+    spare(supply, 2)?;
+    Ok((supply.take()?, supply.take()?))
 }
 
 /// Takes all that may be taken, and says how many those were.

@@ -6,7 +6,8 @@ ghost use Rattle.supply.specs.Stocks.{Taken, GivenBack, fresh, kept_size, marked
 ghost use Rattle.supply.specs.Rows.{Below, Unused, Apart, Rising, TookFirst, PutFirst, row_of, link_marks, link_stock};
 ghost use Rattle.supply.specs.StockLaws.{links_sound};
 
-use crate::{Fault, Supply, kept_size};
+use crate::{Fault, MOST, Supply, kept_size};
+use std::array;
 
 /// The link of a number that is out.
 const OUT: u16 = 65535;
@@ -17,7 +18,7 @@ pub struct Chain {
     size: u16,
     left: u16,
     head: u16,
-    links: [u16; 4096],
+    links: [u16; MOST as usize],
     ghost fits: { size ≤ 4096 },
     ghost counts: { left + marked (link_marks size links) ≡ size },
     ghost inner: { head < 65535 },
@@ -27,14 +28,10 @@ pub struct Chain {
 }
 
 /// Each number with a link to the next.
-fn rising() -> [u16; 4096]
+fn rising() -> [u16; MOST as usize]
     ensures { Rising result 4096 }
 {
-    let mut links = [0; 4096];
-    for i in 0..4096usize {
-        links[i] = i as u16 + 1;
-    }
-    links
+    array::from_fn(|i| i as u16 + 1)
 }
 
 impl Chain {
@@ -65,10 +62,7 @@ impl Supply for Chain {
         ensures row { let s = self.old in let t = self.new in TookFirst (row_of s.links s.head s.left) (row_of t.links t.head t.left) result }
     {
         if self.left == 0 {
-            return Err(Fault::Short {
-                needed: 1,
-                allowance: 0,
-            });
+            return Err(Fault::NONE_LEFT);
         }
         let node = self.head;
         self.head = self.links[node as usize];

@@ -1,10 +1,5 @@
-use Rattle.std.proofs.Common.{◌<◌, ◌≢◌, length, ◌∙◌, arith, length-set, get_or-set_other, get_or-set_same, below_more}
+use Rattle.std.proofs.Common.{rules}
 use Rattle.supply.proofs.links.rising.Goals as goal
 
-pub loop-i-preserved : goal.loop-i-preserved
-loop-i-preserved c = (
-  length-set c.loop-i.links c.loop-i.i _ ∙ c.loop-i.invariant.0,
-  below_more _ _
-      (λ k h. let ne : k ≢ c.loop-i.i = omega arith in rw get_or-set_other (c.loop-i.invariant.1 k h))
-      (let lt : c.loop-i.i < length c.loop-i.links = omega arith in rw get_or-set_same),
-)
+pub returns : goal.returns
+returns c = λ k h. let (p, q, called) = c.from_fn.ensures.items.at k 0 h in search rules

@@ -1,10 +1,6 @@
 use Rattle.std.proofs.Common.{sym}
-use Rattle.supply.proofs.Bitmaps.{give_some, out_below}
+use Rattle.supply.proofs.Bitmaps.{give_some}
 use Rattle.supply.proofs.bits.BitmapSupply.give_back.Goals as goal
-
-pub flip-requires : goal.flip-requires
-flip-requires c =
-    let s = c.args.self.now in out_below s.words s.size c.args.node (sym c.if-not-is_out.ensures)
 
 pub returns : goal.returns
 returns c =

@@ -1,4 +1,4 @@
-use Rattle.std.proofs.Common.{◌≡◌, ◌≤◌, length, ap, ◌∙◌, arith}
+use Rattle.std.proofs.Common.{◌≡◌, ◌≤◌, length, ap, ◌∙◌, arith, rules}
 use Rattle.std.specs.List.{range_with_len}
 use Rattle.supply.specs.Stocks.{fresh}
 use Rattle.supply.proofs.StockLaws.{kept_most}
@@ -10,8 +10,8 @@ invariant_of-result c =
     let l = c.rising-links.result in
     let long : length l ≡ 4096 = omega arith in
     let n = c.kept_size-size.result in
-    let x = new_chained l c.rising-links.ensures long n (omega (arith, c.kept_size-size.ensures, kept_most c.args.size)) in
-    record { fits = x.fits; counts = x.counts; inner = x.inner; below = x.below; unused = x.unused; apart = x.apart }
+    let chained = new_chained l c.rising-links.ensures long n (omega (arith, c.kept_size-size.ensures, kept_most c.args.size)) in
+    search rules
 
 pub returns : goal.returns
 returns c =

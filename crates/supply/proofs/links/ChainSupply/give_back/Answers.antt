@@ -1,4 +1,4 @@
-use Rattle.std.proofs.Common.{sym, arith}
+use Rattle.std.proofs.Common.{sym, arith, rules}
 use Rattle.supply.proofs.Chains.{chained_of, out_below, returned, back_row, back_chained}
 use Rattle.supply.proofs.links.ChainSupply.give_back.Goals as goal
 
@@ -10,8 +10,8 @@ bounds-self-node c =
 pub invariant_of-self : goal.invariant_of-self
 invariant_of-self c =
     let s = c.args.self.now in
-    let x = back_chained s.links s.size s.head s.left c.args.node (omega arith) (chained_of s) (sym c.if-not-is_out.ensures) in
-    record { fits = x.fits; counts = x.counts; inner = x.inner; below = x.below; unused = x.unused; apart = x.apart }
+    let chained = back_chained s.links s.size s.head s.left c.args.node (omega arith) (chained_of s) (sym c.if-not-is_out.ensures) in
+    search rules
 
 pub returns : goal.returns
 returns c =

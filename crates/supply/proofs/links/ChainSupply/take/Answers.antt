@@ -1,14 +1,11 @@
-use Rattle.std.proofs.Common.{◌<◌, ◌≤◌, length, refl, arith}
+use Rattle.std.proofs.Common.{◌<◌, ◌≤◌, length, refl, arith, rules}
 use Rattle.supply.proofs.Chains.{chained_of, none_left, head_below, given, taken_row, taken_chained}
 use Rattle.supply.proofs.links.ChainSupply.take.Goals as goal
 
-pub returns-then-self-eq0 : goal.returns-then-self-eq0
-returns-then-self-eq0 c =
+pub returns-then-self-eq0-clause-taken : goal.returns-then-self-eq0-clause-taken
+returns-then-self-eq0-clause-taken c =
     let s = c.args.self.now in
-    record {
-      taken = record { none_left = none_left s.links s.size s.head s.left (omega arith) (chained_of s) (omega arith); reason = refl; same = refl };
-      row = refl;
-    }
+    record { none_left = none_left s.links s.size s.head s.left (omega arith) (chained_of s) (omega arith); reason = refl; same = refl }
 
 pub bounds-self-node : goal.bounds-self-node
 bounds-self-node c = let s = c.args.self.now in omega (arith, head_below s.links s.size s.head s.left (omega arith) (chained_of s) (omega arith))
@@ -19,8 +16,8 @@ bounds-self-node-2 c = let s = c.args.self.now in omega (arith, head_below s.lin
 pub invariant_of-self : goal.invariant_of-self
 invariant_of-self c =
     let s = c.args.self.now in
-    let x = taken_chained s.links s.size s.head s.left (omega arith) (chained_of s) (omega arith) (omega arith) in
-    record { fits = x.fits; counts = x.counts; inner = x.inner; below = x.below; unused = x.unused; apart = x.apart }
+    let chained = taken_chained s.links s.size s.head s.left (omega arith) (chained_of s) (omega arith) (omega arith) in
+    search rules
 
 pub returns : goal.returns
 returns c =
