@@ -1,70 +1,140 @@
 //! Sixteen books over one supply, in tables of their own.
 
+ghost use Rattle.std.specs.Prelude.{◌<◌, IsOk};
+ghost use Rattle.replay.specs.declared.desk.TheConstants.{PLACES};
+
 use crate::script::Call;
-use crate::shape::show;
+use crate::shape::Shape;
 use cut::split::split_off;
 use insertion::root::{insert_first, try_insert};
 use map::search::search_tree;
+use node::ends::Side;
 use node::head::Head;
 use node::nodes::NodeRef;
 use order::blend::BlendNumber;
 use std::alloc::{AllocError, Global};
+use std::error::Error;
 use std::fmt;
 use supply::links::Chain;
 use supply::{Fault, Supply};
 use walk::walks::{Walk, release};
 
+/// How many places for books there are.
+const PLACES: usize = 16;
+
+/// Why a call was refused.
+#[derive(Clone, Copy, Debug, PartialEq, Eq)]
+pub enum Refusal {
+    /// There is no such place.
+    NoPlace,
+    /// What stands in the place is of another kind than the call asks for.
+    WrongKind,
+    /// The tables or the supply do not allow it.
+    Fault(Fault),
+}
+
+impl Refusal {
+    /// The number that is printed for it.
+    fn number(&self) -> u8 {
+        match self {
+            Refusal::NoPlace => 3,
+            Refusal::WrongKind => 4,
+            Refusal::Fault(Fault::Breach) => 5,
+            Refusal::Fault(Fault::Short { .. }) => 6,
+        }
+    }
+}
+
+impl fmt::Display for Refusal {
+    fn fmt<W: fmt::Write>(&self, f: &mut fmt::Formatter<W>) -> fmt::Result {
+        write!(f, "refused {}", self.number())?;
+        match self {
+            Refusal::Fault(Fault::Short { needed, allowance }) => write!(
+                f,
+                " {needed} {allowance}"
+            ),
+            _ => Ok(()),
+        }
+    }
+}
+
+impl Error for Refusal {}
+
+impl From<Fault> for Refusal {
+    fn from(fault: Fault) -> Refusal {
+        Refusal::Fault(fault)
+    }
+}
+
 /// What stands in a place.
 #[derive(Clone, Copy)]
 enum Book {
+    /// No tree.
     Bare,
+    /// A tree and how many entries it has.
     Tree(NodeRef, usize),
+    /// The entries of a tree that are left to walk over.
     Walk(Walk),
 }
 
-/// What is printed for a call.
-#[derive(Drop)]
+impl Book {
+    /// The root, if there is one, and how many entries there are: not for a walk.
+    fn root_and_count(self) -> Result<(Option<NodeRef>, usize), Refusal> {
+        match self {
+            Book::Bare => Ok((None, 0)),
+            Book::Tree(root, count) => Ok((Some(root), count)),
+            Book::Walk(_) => Err(Refusal::WrongKind),
+        }
+    }
+
+    /// The walk: only for a walk.
+    fn walk(self) -> Result<Walk, Refusal> {
+        match self {
+            Book::Walk(walk) => Ok(walk),
+            Book::Bare | Book::Tree(..) => Err(Refusal::WrongKind),
+        }
+    }
+
+    /// How many entries there are.
+    fn count(self) -> usize {
+        match self {
+            Book::Bare => 0,
+            Book::Tree(_, count) => count,
+            Book::Walk(walk) => walk.left,
+        }
+    }
+}
+
+/// What a call gives.
+#[derive(Debug, Drop)]
 pub enum Answer {
-    New,
-    Old(u32),
-    Value(u32, usize),
-    NoValue(usize),
-    Counts(usize, usize, usize),
-    Open,
-    Entry(u32, u32),
-    NoEntry,
+    /// The value that the key had before, if it had one.
+    Put(Option<u32>),
+    /// The value of the key, if it has one, and the comparisons made.
+    Found(Option<u32>, usize),
+    /// The entries below the key, the others, and the comparisons made.
+    Cut(usize, usize, usize),
+    Opened,
+    /// The key and the value that a walk handed out, if any were left.
+    Entry(Option<(u32, u32)>),
     Number(usize),
     Text(String),
-    Refused(u8),
-    Short(u16, u16),
-    Broken,
 }
 
 impl fmt::Display for Answer {
     fn fmt<W: fmt::Write>(&self, f: &mut fmt::Formatter<W>) -> fmt::Result {
         match self {
-            Answer::New => write!(f, "new"),
-            Answer::Old(value) => write!(f, "old {value}"),
-            Answer::Value(value, count) => write!(f, "{value} {count}"),
-            Answer::NoValue(count) => write!(f, "none {count}"),
-            Answer::Counts(left, right, made) => write!(f, "{left} {right} {made}"),
-            Answer::Open => write!(f, "open"),
-            Answer::Entry(key, value) => write!(f, "{key} {value}"),
-            Answer::NoEntry => write!(f, "none"),
+            Answer::Put(None) => write!(f, "new"),
+            Answer::Put(Some(old)) => write!(f, "old {old}"),
+            Answer::Found(None, made) => write!(f, "none {made}"),
+            Answer::Found(Some(value), made) => write!(f, "{value} {made}"),
+            Answer::Cut(left, right, made) => write!(f, "{left} {right} {made}"),
+            Answer::Opened => write!(f, "open"),
+            Answer::Entry(None) => write!(f, "none"),
+            Answer::Entry(Some((key, value))) => write!(f, "{key} {value}"),
             Answer::Number(number) => write!(f, "{number}"),
             Answer::Text(text) => write!(f, "{text}"),
-            Answer::Refused(number) => write!(f, "refused {number}"),
-            Answer::Short(needed, allowance) => write!(f, "refused 6 {needed} {allowance}"),
-            Answer::Broken => write!(f, "refused 5"),
         }
-    }
-}
-
-/// A fault as it is printed.
-fn refusal(fault: Fault) -> Answer {
-    match fault {
-        Fault::Breach => Answer::Broken,
-        Fault::Short { needed, allowance } => Answer::Short(needed, allowance),
     }
 }
 
@@ -82,7 +152,7 @@ pub struct Desk {
     keys: Vec<BlendNumber>,
     values: Vec<u32>,
     supply: Chain,
-    books: [Book; 16],
+    books: [Book; PLACES],
 }
 
 impl Desk {
@@ -94,253 +164,183 @@ impl Desk {
             keys: vec![in heap; BlendNumber { number: 9 }; cells]?,
             values: vec![in heap; 9; cells]?,
             supply: Chain::new(size),
-            books: [Book::Bare; 16],
+            books: [Book::Bare; PLACES],
         })
     }
 
-    fn put(&mut self, place: usize, key: u32, value: u32) -> Answer {
-        if place >= 16 {
-            return Answer::Refused(3);
-        }
+    /// What stands in a place.
+    fn book(&self, place: usize) -> Result<Book, Refusal>
+        ensures { IsOk result → place < PLACES }
+    {
+        self.books.get(place).copied().ok_or(Refusal::NoPlace)
+    }
+
+    fn put(&mut self, place: usize, key: u32, value: u32) -> Result<Answer, Refusal> {
+        let (root, count) = self.book(place)?.root_and_count()?;
         let key = BlendNumber { number: key };
-        let book = self.books[place];
-        match book {
-            Book::Bare => match insert_first(
+        let Some(root) = root else {
+            let root = insert_first(
                 self.heads.as_mut_slice(),
                 self.keys.as_mut_slice(),
                 self.values.as_mut_slice(),
                 &mut self.supply,
                 key,
                 value,
-            ) {
-                Ok(root) => {
-                    self.books[place] = Book::Tree(root, 1);
-                    Answer::New
-                }
-                Err(fault) => refusal(fault),
-            },
-            Book::Tree(root, count) => match try_insert(
-                self.heads.as_mut_slice(),
-                self.keys.as_mut_slice(),
-                self.values.as_mut_slice(),
-                &mut self.supply,
-                root,
-                key,
-                value,
-            ) {
-                Ok((top, Some(old))) => {
-                    self.books[place] = Book::Tree(top, count);
-                    Answer::Old(old)
-                }
-                Ok((top, None)) => {
-                    self.books[place] = Book::Tree(top, count.saturating_add(1));
-                    Answer::New
-                }
-                Err(fault) => refusal(fault),
-            },
-            Book::Walk(_) => Answer::Refused(4),
-        }
+            )?;
+            self.books[place] = Book::Tree(root, 1);
+            return Ok(Answer::Put(None));
+        };
+        let (top, old) = try_insert(
+            self.heads.as_mut_slice(),
+            self.keys.as_mut_slice(),
+            self.values.as_mut_slice(),
+            &mut self.supply,
+            root,
+            key,
+            value,
+        )?;
+        let count = match old {
+            Some(_) => count,
+            None => count.saturating_add(1),
+        };
+        self.books[place] = Book::Tree(top, count);
+        Ok(Answer::Put(old))
     }
 
-    fn look_up(&self, place: usize, key: u32) -> Answer {
-        if place >= 16 {
-            return Answer::Refused(3);
-        }
-        match self.books[place] {
-            Book::Bare => Answer::NoValue(0),
-            Book::Tree(root, _) => {
-                let query = BlendNumber { number: key };
-                match search_tree(
-                    self.heads.as_slice(),
-                    self.keys.as_slice(),
-                    self.values.as_slice(),
-                    root,
-                    &query,
-                ) {
-                    Ok((Some(value), count)) => Answer::Value(value, count),
-                    Ok((None, count)) => Answer::NoValue(count),
-                    Err(fault) => refusal(fault),
-                }
-            }
-            Book::Walk(_) => Answer::Refused(4),
-        }
+    fn look_up(&self, place: usize, key: u32) -> Result<Answer, Refusal> {
+        let (Some(root), _) = self.book(place)?.root_and_count()? else {
+            return Ok(Answer::Found(None, 0));
+        };
+        let (value, made) = search_tree(
+            self.heads.as_slice(),
+            self.keys.as_slice(),
+            self.values.as_slice(),
+            root,
+            &BlendNumber { number: key },
+        )?;
+        Ok(Answer::Found(value, made))
     }
 
-    fn cut(&mut self, from: usize, to: usize, key: u32) -> Answer {
-        if from >= 16 || to >= 16 {
-            return Answer::Refused(3);
+    fn cut(&mut self, from: usize, to: usize, key: u32) -> Result<Answer, Refusal> {
+        let book = self.book(from)?;
+        let target = self.book(to)?;
+        if from == to || !matches!(target, Book::Bare) {
+            return Err(Refusal::WrongKind);
         }
-        let book = self.books[from];
-        let target = self.books[to];
-        let (Book::Bare, false) = (target, from == to) else {
-            return Answer::Refused(4);
+        let (Some(root), count) = book.root_and_count()? else {
+            return Ok(Answer::Cut(0, 0, 0));
         };
-        let (root, count) = match book {
-            Book::Bare => return Answer::Counts(0, 0, 0),
-            Book::Tree(root, count) => (root, count),
-            Book::Walk(_) => return Answer::Refused(4),
-        };
-        let query = BlendNumber { number: key };
-        match split_off(
+        let done = split_off(
             self.heads.as_mut_slice(),
             self.keys.as_mut_slice(),
             self.values.as_mut_slice(),
             &mut self.supply,
             root,
             count,
-            &query,
-        ) {
-            Ok(done) => {
-                let (left, right, made) = done.counts;
-                if let Some((first, second)) = done.parts {
-                    self.books[from] = Book::Tree(first, left);
-                    self.books[to] = Book::Tree(second, right);
-                }
-                Answer::Counts(left, right, made)
-            }
-            Err(fault) => refusal(fault),
+            &BlendNumber { number: key },
+        )?;
+        let (left, right, made) = done.counts;
+        if let Some((first, second)) = done.parts {
+            self.books[from] = Book::Tree(first, left);
+            self.books[to] = Book::Tree(second, right);
         }
+        Ok(Answer::Cut(left, right, made))
     }
 
-    fn open(&mut self, place: usize) -> Answer {
-        if place >= 16 {
-            return Answer::Refused(3);
-        }
-        let book = self.books[place];
-        let (root, count) = match book {
-            Book::Bare => (None, 0),
-            Book::Tree(root, count) => (Some(root), count),
-            Book::Walk(_) => return Answer::Refused(4),
-        };
-        match Walk::open(
+    fn open(&mut self, place: usize) -> Result<Answer, Refusal> {
+        let (root, count) = self.book(place)?.root_and_count()?;
+        let walk = Walk::open(
             self.heads.as_slice(),
             self.keys.as_slice(),
             self.values.as_slice(),
             root,
             count,
-        ) {
-            Ok(walk) => {
-                self.books[place] = Book::Walk(walk);
-                Answer::Open
-            }
-            Err(fault) => refusal(fault),
-        }
+        )?;
+        self.books[place] = Book::Walk(walk);
+        Ok(Answer::Opened)
     }
 
-    /// A step of the walk in a place, from its front or from its back.
-    fn step(&mut self, place: usize, back: bool) -> Answer {
-        if place >= 16 {
-            return Answer::Refused(3);
-        }
-        let book = self.books[place];
-        let Book::Walk(mut walk) = book else {
-            return Answer::Refused(4);
-        };
+    /// A step of the walk in a place, from one of its ends.
+    fn step(&mut self, place: usize, side: Side) -> Result<Answer, Refusal> {
+        let mut walk = self.book(place)?.walk()?;
         let heads = self.heads.as_slice();
         let keys = self.keys.as_slice();
         let values = self.values.as_slice();
-        let handed = if back {
-            walk.next_back(heads, keys, values, &mut self.supply)
-        } else {
-            walk.next(heads, keys, values, &mut self.supply)
+        let handed = match side {
+            Side::First => walk.next(heads, keys, values, &mut self.supply),
+            Side::Last => walk.next_back(heads, keys, values, &mut self.supply),
         };
         self.books[place] = Book::Walk(walk);
-        match handed {
-            Ok(Some((key, value))) => Answer::Entry(key.number, value),
-            Ok(None) => Answer::NoEntry,
-            Err(fault) => refusal(fault),
-        }
+        Ok(Answer::Entry(handed?.map(|(key, value)| (key.number, value))))
     }
 
-    fn close(&mut self, place: usize) -> Answer {
-        if place >= 16 {
-            return Answer::Refused(3);
-        }
-        let book = self.books[place];
-        let Book::Walk(walk) = book else {
-            return Answer::Refused(4);
-        };
+    fn close(&mut self, place: usize) -> Result<Answer, Refusal> {
+        let walk = self.book(place)?.walk()?;
         self.books[place] = Book::Bare;
-        match walk.close(
+        let dropped = walk.close(
             self.heads.as_slice(),
             self.keys.as_slice(),
             self.values.as_slice(),
             &mut self.supply,
-        ) {
-            Ok(dropped) => Answer::Number(dropped),
-            Err(fault) => refusal(fault),
-        }
+        )?;
+        Ok(Answer::Number(dropped))
     }
 
-    fn release(&mut self, place: usize) -> Answer {
-        if place >= 16 {
-            return Answer::Refused(3);
-        }
-        let book = self.books[place];
-        let (root, count) = match book {
-            Book::Bare => (None, 0),
-            Book::Tree(root, count) => (Some(root), count),
-            Book::Walk(_) => return Answer::Refused(4),
-        };
+    fn release(&mut self, place: usize) -> Result<Answer, Refusal> {
+        let (root, count) = self.book(place)?.root_and_count()?;
         self.books[place] = Book::Bare;
-        match release(
+        let dropped = release(
             self.heads.as_slice(),
             self.keys.as_slice(),
             self.values.as_slice(),
             &mut self.supply,
             root,
             count,
-        ) {
-            Ok(dropped) => Answer::Number(dropped),
-            Err(fault) => refusal(fault),
+        )?;
+        Ok(Answer::Number(dropped))
+    }
+
+    fn count(&self, place: usize) -> Result<Answer, Refusal> {
+        Ok(Answer::Number(self.book(place)?.count()))
+    }
+
+    /// A book in writing.
+    fn text_of(&self, heap: Global, book: Book) -> Result<String, AllocError> {
+        match book {
+            Book::Bare => String::from_str(heap, "bare"),
+            Book::Tree(root, _) => {
+                let shape = Shape {
+                    heads: self.heads.as_slice(),
+                    keys: self.keys.as_slice(),
+                    root,
+                };
+                shape.to_string(heap)
+            }
+            Book::Walk(_) => String::from_str(heap, "walk"),
         }
     }
 
-    fn count(&self, place: usize) -> Answer {
-        if place >= 16 {
-            return Answer::Refused(3);
-        }
-        match self.books[place] {
-            Book::Bare => Answer::Number(0),
-            Book::Tree(_, count) => Answer::Number(count),
-            Book::Walk(walk) => Answer::Number(walk.left),
-        }
-    }
-
-    fn shape(&self, heap: Global, place: usize) -> Result<Answer, AllocError> {
-        if place >= 16 {
-            return Ok(Answer::Refused(3));
-        }
-        let mut text = String::new(heap);
-        match self.books[place] {
-            Book::Bare => text.push_str("bare")?,
-            Book::Tree(root, _) => show(
-                heap,
-                &mut text,
-                self.heads.as_slice(),
-                self.keys.as_slice(),
-                root.height,
-                root.node,
-            )?,
-            Book::Walk(_) => text.push_str("walk")?,
-        }
-        Ok(Answer::Text(text))
-    }
-
-    /// Performs one call.
-    pub fn perform(&mut self, heap: Global, call: Call) -> Result<Answer, AllocError> {
-        match call {
-            Call::Put(place, key, value) => Ok(self.put(place, key, value)),
-            Call::LookUp(place, key) => Ok(self.look_up(place, key)),
-            Call::Cut(from, to, key) => Ok(self.cut(from, to, key)),
-            Call::Open(place) => Ok(self.open(place)),
-            Call::Next(place) => Ok(self.step(place, false)),
-            Call::NextBack(place) => Ok(self.step(place, true)),
-            Call::Close(place) => Ok(self.close(place)),
-            Call::Release(place) => Ok(self.release(place)),
-            Call::Shape(place) => self.shape(heap, place),
-            Call::Count(place) => Ok(self.count(place)),
+    /// Performs one call: what it gives, or why it was refused. Only memory can fail.
+    pub fn perform(
+        &mut self,
+        heap: Global,
+        call: Call,
+    ) -> Result<Result<Answer, Refusal>, AllocError> {
+        Ok(match call {
+            Call::Put(place, key, value) => self.put(place, key, value),
+            Call::LookUp(place, key) => self.look_up(place, key),
+            Call::Cut(from, to, key) => self.cut(from, to, key),
+            Call::Open(place) => self.open(place),
+            Call::Next(place) => self.step(place, Side::First),
+            Call::NextBack(place) => self.step(place, Side::Last),
+            Call::Close(place) => self.close(place),
+            Call::Release(place) => self.release(place),
+            Call::Shape(place) => match self.book(place) {
+                Ok(book) => Ok(Answer::Text(self.text_of(heap, book)?)),
+                Err(refusal) => Err(refusal),
+            },
+            Call::Count(place) => self.count(place),
             Call::Out => Ok(Answer::Number(self.supply.out_count() as usize)),
-        }
+        })
     }
 }

@@ -5,7 +5,6 @@ mod desk;
 mod script;
 mod shape;
 
-use anyhow::anyhow;
 use desk::Desk;
 use script::Call;
 use std::env;
@@ -13,9 +12,7 @@ use std::io::{BufRead, BufReader};
 
 /// The size of the supply, from the first argument.
 fn size_asked(rt: &HostRuntime) -> anyhow::Result<u16> {
-    let mut args = env::args(rt)?;
-    let _ = args.next();
-    match args.next() {
+    match env::args(rt)?.nth(1) {
         Some(word) => Ok(word.parse::<u16>()?),
         None => Ok(64),
     }
@@ -25,12 +22,11 @@ fn main(rt: HostRuntime) -> anyhow::Result<()> {
     let heap = rt.alloc();
     let mut desk = Desk::new(heap, size_asked(&rt)?)?;
     for line in BufReader::new(heap, rt.stdin())?.lines(heap) {
-        let text = line?;
-        let Some(call) = Call::read(text.as_bytes()) else {
-            return Err(anyhow!("a line that is no call"));
-        };
-        let answer = desk.perform(heap, call)?;
-        println!(rt; "{answer}")?;
+        let call = line?.parse::<Call>()?;
+        match desk.perform(heap, call)? {
+            Ok(answer) => println!(rt; "{answer}")?,
+            Err(refusal) => println!(rt; "{refusal}")?,
+        }
     }
     Ok(())
 }

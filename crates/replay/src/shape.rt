@@ -1,65 +1,64 @@
 //! A tree in writing: a leaf as `[LEN: k k]`, another node as `(LEN: CHILD k CHILD)`.
 
-ghost use Rattle.std.specs.Prelude.{◌≤◌};
+ghost use Rattle.std.specs.Prelude.{◌<◌};
 
 use node::head::{CAPACITY, Head};
+use node::nodes::NodeRef;
 use order::blend::BlendNumber;
-use std::alloc::{AllocError, Global};
+use std::fmt;
 
-/// Writes the key at `idx` of `node`.
-fn show_key(
-    heap: Global,
-    out: &mut String,
-    keys: &[BlendNumber],
-    node: u16,
-    idx: usize,
-) -> Result<(), AllocError> {
-    let at = CAPACITY * node as usize + idx.min(CAPACITY);
-    if at >= keys.len() {
-        return out.push_str(" ?");
-    }
-    let number = keys[at].number;
-    let text = format!(in heap; " {number}")?;
-    out.push_str(text.as_str())
+/// A tree to be written, with `?` for each node and key that lies outside the tables.
+#[derive(Clone, Copy)]
+pub struct Shape<'a> {
+    pub heads: &'a [Head],
+    pub keys: &'a [BlendNumber],
+    pub root: NodeRef,
 }
 
-/// How many keys a node has, at most eleven.
-fn len_of(head: &Head) -> usize
-    ensures { result ≤ 11 }
-{
-    (head.len as usize).min(CAPACITY)
-}
-
-/// The child at an edge.
-fn child_of(head: &Head, idx: usize) -> u16 {
-    if idx > CAPACITY { 0 } else { head.edges[idx] }
-}
-
-/// Writes the tree of this height under `node`.
-pub fn show(
-    heap: Global,
-    out: &mut String,
-    heads: &[Head],
-    keys: &[BlendNumber],
-    height: u16,
-    node: u16,
-) -> Result<(), AllocError> {
-    if node as usize >= heads.len() {
-        return out.push_str("?");
-    }
-    let len = len_of(&heads[node as usize]);
-    let text = format!(in heap; "{len}:")?;
-    out.push_str(if height == 0 { "[" } else { "(" })?;
-    out.push_str(text.as_str())?;
-    for idx in 0..len + 1 {
-        if height > 0 {
-            out.push_str(" ")?;
-            let child = child_of(&heads[node as usize], idx);
-            show(heap, out, heads, keys, height - 1, child)?;
-        }
-        if idx < len {
-            show_key(heap, out, keys, node, idx)?;
+impl Shape<'_> {
+    /// Writes the key at `idx` of `node`.
+    fn write_key<W: fmt::Write>(
+        &self,
+        f: &mut fmt::Formatter<W>,
+        node: u16,
+        idx: usize,
+    ) -> fmt::Result
+        requires { idx < 11 }
+    {
+        match self.keys.get(CAPACITY * node as usize + idx) {
+            Some(key) => write!(f, " {key}"),
+            None => write!(f, " ?"),
         }
     }
-    out.push_str(if height == 0 { "]" } else { ")" })
+
+    /// Writes the tree of this height under `node`.
+    fn write_node<W: fmt::Write>(
+        &self,
+        f: &mut fmt::Formatter<W>,
+        height: u16,
+        node: u16,
+    ) -> fmt::Result {
+        let Some(head) = self.heads.get(node as usize) else {
+            return write!(f, "?");
+        };
+        let len = CAPACITY.min(head.len as usize);
+        let (open, close) = if height == 0 { ("[", "]") } else { ("(", ")") };
+        write!(f, "{open}{len}:")?;
+        for idx in 0..=len {
+            if height > 0 {
+                write!(f, " ")?;
+                self.write_node(f, height - 1, head.edges[idx])?;
+            }
+            if idx < len {
+                self.write_key(f, node, idx)?;
+            }
+        }
+        write!(f, "{close}")
+    }
+}
+
+impl fmt::Display for Shape<'_> {
+    fn fmt<W: fmt::Write>(&self, f: &mut fmt::Formatter<W>) -> fmt::Result {
+        self.write_node(f, self.root.height, self.root.node)
+    }
 }
