@@ -1,5 +1,4 @@
 -- A tree cut in two, in tables and supply.
---   Spared        the allowance is at least what is needed, or the call is refused and says how much there is
 --   CountsBoth    where n and m entries stand under two nodes, together as many as are given, both are answered
 --   left_of, right_of    the two parts of a tree, with their heights, at the query that `place` compares with
 --   Halved        the tables hold both parts, roots both; the supply has given what they have more than t, and all else that is out is as it was
@@ -21,9 +20,6 @@ use Rattle.node.specs.Balance.{Owns, Rooted, Balanced, Beside, Unchanged}
 use Rattle.parts.specs.Rules.{left_part, right_part, cuts}
 use Rattle.cut.specs.declared.split.Cut.{Cut}
 use Rattle.cut.specs.Descent.{beneath}
-
-abbrev pub Spared : Stock → ℕ → Result (Unit {0}) Fault → Type 0
-Spared S n r = MatchResult r (λ _. n ≤ S.allowance) (λ f. (S.allowance < n) × (f ≡ Short n S.allowance))
 
 abbrev pub CountsBoth : List Head → NodeRef → NodeRef → ℕ → Result (ℕ × ℕ) Fault → Type 0
 CountsBoth H l r count res =

@@ -1,7 +1,7 @@
 //! A tree cut in two at a query: what is below it stays, and the rest becomes a tree of its own.
 
 ghost use Rattle.std.specs.Prelude.{◌≡◌, ◌+◌, ◌<◌, MatchResult};
-ghost use Rattle.cut.specs.Split.{Spared, CountsBoth, Halves, SplitsOff};
+ghost use Rattle.cut.specs.Split.{CountsBoth, Halves, SplitsOff};
 
 use crate::descent::cut_under;
 use crate::spine::take_spine;
@@ -11,7 +11,7 @@ use node::nodes::NodeRef;
 use node::tables::TablesMut;
 use order::keys::{KeyOrder, Placing, Query};
 use repair::border::{fix_left_border, fix_right_border};
-use supply::{Fault, Supply};
+use supply::{Fault, Supply, spare};
 
 /// What a cut made: the roots of both parts, none where there was nothing to cut, and how many entries are left, how many right, and how
 /// many keys were compared.
@@ -19,17 +19,6 @@ use supply::{Fault, Supply};
 pub struct Cut {
     pub parts: Option<(NodeRef, NodeRef)>,
     pub counts: (usize, usize, usize),
-}
-
-/// Refuses where fewer than `needed` numbers may be taken.
-fn spare<S: Supply>(supply: &S, needed: u16) -> Result<(), Fault>
-    ensures { Spared (S.stock supply.now) needed result }
-{
-    let allowance = supply.allowance();
-    if allowance < needed {
-        return Err(Fault::Short { needed, allowance });
-    }
-    Ok(())
 }
 
 /// How many of `count` are left besides `len`.

@@ -1,5 +1,5 @@
 -- Insertion from a node down, as the code performs it in tables and supply.
---   Spared       a number is taken, or refused where fewer than `needed` may be
+--   TookFor      a number is taken, or refused where fewer than `needed` may be
 --   Comes        what came of child i of a node: nothing in a leaf; above, the old child's tree and a new one at c to its right
 --   Settles      an entry put at index i into node m, which is split where it is full
 --   need_at       how many nodes an insertion below a node takes, where its ancestors would take `above` if it were split
@@ -22,8 +22,8 @@ use Rattle.insertion.specs.declared.descent.InsertResult.{InsertResult}
 use Rattle.insertion.specs.declared.descent.InsertResult.TheVariants.{Replaced}
 use Rattle.insertion.specs.Grew.{Grew, seated, coming, members}
 
-abbrev pub Spared : Stock → Stock → ℕ → Result ℕ Fault → Type 0
-Spared S S' needed r = MatchResult r (λ n. Given S S' n × (needed ≤ S.allowance)) (λ f. (S.allowance < needed) × (f ≡ Short needed S.allowance) × (S' ≡ S))
+abbrev pub TookFor : Stock → Stock → ℕ → Result ℕ Fault → Type 0
+TookFor S S' needed r = MatchResult r (λ n. Given S S' n × (needed ≤ S.allowance)) (λ f. (S.allowance < needed) × (f ≡ Short needed S.allowance) × (S' ≡ S))
 
 pub record Comes {E : Type 0} (h i c : ℕ) (new ks : List (Tree E)) : Type 0 where
   pub leaf : h ≡ 0 → (new ≡ []) × (ks ≡ [])

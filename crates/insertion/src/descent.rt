@@ -1,7 +1,7 @@
 //! Insertion from a node down to a leaf, and the splits on the way back.
 
 ghost use Rattle.std.specs.Prelude.{◌≡◌, ◌+◌, ◌<◌, ◌≤◌};
-ghost use Rattle.insertion.specs.Descent.{Settles, Spared, Descends, above_child};
+ghost use Rattle.insertion.specs.Descent.{Settles, TookFor, Descends, above_child};
 
 use map::insert::{insert_fit, insert_full, replace_value};
 use map::search::search_in;
@@ -10,7 +10,7 @@ use node::nodes::{ForceResult, NodeRef};
 use node::tables::TablesMut;
 use order::keys::KeyOrder;
 use order::search::SearchResult;
-use supply::{Fault, Supply};
+use supply::{Fault, Supply, spare};
 
 /// What came of an insertion under a node: a value replaced, room found, or a split with the entry that rises and the new right node.
 #[derive(Clone, Copy, PartialEq, Eq, Debug)]
@@ -23,12 +23,9 @@ pub enum InsertResult<K, V> {
 /// A number, where `needed` may be taken.
 fn take_for<S: Supply>(supply: &mut S, needed: u16) -> Result<u16, Fault>
     requires { 0 < needed }
-    ensures { Spared (S.stock supply.old) (S.stock supply.new) needed result }
+    ensures { TookFor (S.stock supply.old) (S.stock supply.new) needed result }
 {
-    let allowance = supply.allowance();
-    if allowance < needed {
-        return Err(Fault::Short { needed, allowance });
-    }
+    spare(supply, needed)?;
     supply.take()
 }
 

@@ -5,7 +5,7 @@ ghost use Rattle.node.specs.declared.ends.Side.TheVariants.{First, Last};
 ghost use Rattle.parts.specs.Rules.{beside};
 ghost use Rattle.repair.specs.Repair.{Mends, Repairs};
 
-use crate::joint::join_at;
+use crate::joint::Joint;
 use crate::top::fix_top;
 use node::ends::Side;
 use node::nodes::{ForceResult, NodeRef};
@@ -40,7 +40,7 @@ fn mend<K: Copy, V: Copy, S: Supply>(
         return Ok(());
     }
     let idx = border_entry(side, len);
-    let child = join_at(tables, supply, side, parent, idx)?;
+    let child = Joint { parent, idx, side }.join(tables, supply)?;
     mend(tables, supply, side, parent.child(child))
 }
 

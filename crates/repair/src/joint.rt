@@ -1,8 +1,7 @@
 //! Two neighbours among the children of a node: merged where they fit into one, else the one at the border raised to six entries.
 
-ghost use Rattle.std.specs.Prelude.{◌≡◌, ◌+◌, ◌<◌, length, MatchResult};
+ghost use Rattle.std.specs.Prelude.{◌≡◌, ◌<◌, length, MatchResult};
 ghost use Rattle.node.specs.Links.{edge};
-ghost use Rattle.repair.specs.Joint.{border_edge, Raises, Joins};
 
 use node::ends::Side;
 use node::head::{B, CAPACITY, Head};
@@ -21,56 +20,61 @@ pub fn edge_of(heads: &[Head], node: u16, idx: usize) -> Result<u16, Fault>
     Ok(heads[at].edges[idx])
 }
 
-/// The index of the edge at the border, of the two beside the entry at `idx`.
-fn border_edge(side: Side, idx: usize) -> usize
-    requires { idx < 11 }
-    ensures { result ≡ border_edge side idx }
-{
-    match side {
-        Side::First => idx,
-        Side::Last => idx + 1,
-    }
+/// Two neighbours among the children of `parent`, beside its entry at `idx`, of which the one at `side` stands at the border.
+#[derive(Clone, Copy)]
+pub(crate) struct Joint {
+    pub(crate) parent: Internal,
+    pub(crate) idx: usize,
+    pub(crate) side: Side,
+    ghost low: { idx < 11 },
 }
 
-/// Raises the border child beside the entry at `idx` to six entries, where it has fewer, and answers it.
-fn raise<K: Copy, V: Copy>(
-    tables: &mut TablesMut<'_, K, V>,
-    side: Side,
-    parent: Internal,
-    idx: usize,
-) -> Result<u16, Fault>
-    requires { idx < 11 }
-    ensures { Raises side tables.old tables.new parent.height parent.node idx result }
-{
-    let shown = tables.as_tables();
-    let child = edge_of(shown.heads, parent.node, border_edge(side, idx))?;
-    let len = shown.len_in(child)?;
-    if len < B {
-        match side {
-            Side::First => parent.bulk_steal_right(tables, idx, B - len)?,
-            Side::Last => parent.bulk_steal_left(tables, idx, B - len)?,
+impl Joint {
+    ghost use Rattle.std.specs.Prelude.{◌≡◌};
+    ghost use Rattle.repair.specs.Joint.{border_edge, Raises, Joins};
+
+    /// The index of the edge to the border child.
+    fn border_edge(self) -> usize
+        ensures { result ≡ border_edge self.side self.idx }
+    {
+        match self.side {
+            Side::First => self.idx,
+            Side::Last => self.idx + 1,
         }
     }
-    Ok(child)
-}
 
-/// Merges the children beside the entry at `idx` where they fit into one node, and gives the right one back; else raises the one at the border.
-/// Answers the border child.
-pub(crate) fn join_at<K: Copy, V: Copy, S: Supply>(
-    tables: &mut TablesMut<'_, K, V>,
-    supply: &mut S,
-    side: Side,
-    parent: Internal,
-    idx: usize,
-) -> Result<u16, Fault>
-    requires { idx < 11 }
-    ensures { Joins side tables.old tables.new (S.stock supply.old) (S.stock supply.new) parent.height parent.node idx result }
-{
-    let fits = parent.can_merge(&tables.as_tables(), idx)?;
-    if fits {
-        let (left, right) = parent.merge(tables, idx)?;
-        supply.give_back(right)?;
-        return Ok(left);
+    /// Raises the border child to six entries, where it has fewer, and answers it.
+    fn raise<K: Copy, V: Copy>(self, tables: &mut TablesMut<'_, K, V>) -> Result<u16, Fault>
+        ensures { Raises self.side tables.old tables.new self.parent.height self.parent.node self.idx result }
+    {
+        let shown = tables.as_tables();
+        let child = edge_of(shown.heads, self.parent.node, self.border_edge())?;
+        let len = shown.len_in(child)?;
+        if len < B {
+            let Joint { parent, idx, .. } = self;
+            match self.side {
+                Side::First => parent.bulk_steal_right(tables, idx, B - len)?,
+                Side::Last => parent.bulk_steal_left(tables, idx, B - len)?,
+            }
+        }
+        Ok(child)
     }
-    raise(tables, side, parent, idx)
+
+    /// Merges the two where they fit into one node, and gives the right one back; else raises the one at the border.
+    /// Answers the border child.
+    pub(crate) fn join<K: Copy, V: Copy, S: Supply>(
+        self,
+        tables: &mut TablesMut<'_, K, V>,
+        supply: &mut S,
+    ) -> Result<u16, Fault>
+        ensures { Joins self.side tables.old tables.new (S.stock supply.old) (S.stock supply.new) self.parent.height self.parent.node self.idx result }
+    {
+        let fits = self.parent.can_merge(&tables.as_tables(), self.idx)?;
+        if fits {
+            let (left, right) = self.parent.merge(tables, self.idx)?;
+            supply.give_back(right)?;
+            return Ok(left);
+        }
+        self.raise(tables)
+    }
 }

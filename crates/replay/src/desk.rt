@@ -11,6 +11,7 @@ use map::search::search_tree;
 use node::ends::Side;
 use node::head::Head;
 use node::nodes::NodeRef;
+use node::tables::{Tables, TablesMut};
 use order::blend::BlendNumber;
 use std::alloc::{AllocError, Global};
 use std::error::Error;
@@ -161,11 +162,20 @@ impl Desk {
         let cells = size as usize * 11;
         Ok(Desk {
             heads: vec![in heap; FREE; size as usize]?,
-            keys: vec![in heap; BlendNumber { number: 9 }; cells]?,
+            keys: vec![in heap; BlendNumber::from(9); cells]?,
             values: vec![in heap; 9; cells]?,
             supply: Chain::new(size),
             books: [Book::Bare; PLACES],
         })
+    }
+
+    /// The tables, to read.
+    fn tables(&self) -> Tables<'_, BlendNumber, u32> {
+        Tables {
+            heads: self.heads.as_slice(),
+            keys: self.keys.as_slice(),
+            values: self.values.as_slice(),
+        }
     }
 
     /// What stands in a place.
@@ -177,28 +187,18 @@ impl Desk {
 
     fn put(&mut self, place: usize, key: u32, value: u32) -> Result<Answer, Refusal> {
         let (root, count) = self.book(place)?.root_and_count()?;
-        let key = BlendNumber { number: key };
+        let key = BlendNumber::from(key);
+        let mut tables = TablesMut {
+            heads: self.heads.as_mut_slice(),
+            keys: self.keys.as_mut_slice(),
+            values: self.values.as_mut_slice(),
+        };
         let Some(root) = root else {
-            let root = insert_first(
-                self.heads.as_mut_slice(),
-                self.keys.as_mut_slice(),
-                self.values.as_mut_slice(),
-                &mut self.supply,
-                key,
-                value,
-            )?;
+            let root = insert_first(&mut tables, &mut self.supply, key, value)?;
             self.books[place] = Book::Tree(root, 1);
             return Ok(Answer::Put(None));
         };
-        let (top, old) = try_insert(
-            self.heads.as_mut_slice(),
-            self.keys.as_mut_slice(),
-            self.values.as_mut_slice(),
-            &mut self.supply,
-            root,
-            key,
-            value,
-        )?;
+        let (top, old) = try_insert(&mut tables, &mut self.supply, root, key, value)?;
         let count = match old {
             Some(_) => count,
             None => count.saturating_add(1),
@@ -211,13 +211,7 @@ impl Desk {
         let (Some(root), _) = self.book(place)?.root_and_count()? else {
             return Ok(Answer::Found(None, 0));
         };
-        let (value, made) = search_tree(
-            self.heads.as_slice(),
-            self.keys.as_slice(),
-            self.values.as_slice(),
-            root,
-            &BlendNumber { number: key },
-        )?;
+        let (value, made) = search_tree(&self.tables(), root, &BlendNumber::from(key))?;
         Ok(Answer::Found(value, made))
     }
 
@@ -230,15 +224,13 @@ impl Desk {
         let (Some(root), count) = book.root_and_count()? else {
             return Ok(Answer::Cut(0, 0, 0));
         };
-        let done = split_off(
-            self.heads.as_mut_slice(),
-            self.keys.as_mut_slice(),
-            self.values.as_mut_slice(),
-            &mut self.supply,
-            root,
-            count,
-            &BlendNumber { number: key },
-        )?;
+        let mut tables = TablesMut {
+            heads: self.heads.as_mut_slice(),
+            keys: self.keys.as_mut_slice(),
+            values: self.values.as_mut_slice(),
+        };
+        let query = BlendNumber::from(key);
+        let done = split_off(&mut tables, &mut self.supply, root, count, &query)?;
         let (left, right, made) = done.counts;
         if let Some((first, second)) = done.parts {
             self.books[from] = Book::Tree(first, left);
@@ -249,13 +241,7 @@ impl Desk {
 
     fn open(&mut self, place: usize) -> Result<Answer, Refusal> {
         let (root, count) = self.book(place)?.root_and_count()?;
-        let walk = Walk::open(
-            self.heads.as_slice(),
-            self.keys.as_slice(),
-            self.values.as_slice(),
-            root,
-            count,
-        )?;
+        let walk = Walk::open(&self.tables(), root, count)?;
         self.books[place] = Book::Walk(walk);
         Ok(Answer::Opened)
     }
@@ -263,12 +249,14 @@ impl Desk {
     /// A step of the walk in a place, from one of its ends.
     fn step(&mut self, place: usize, side: Side) -> Result<Answer, Refusal> {
         let mut walk = self.book(place)?.walk()?;
-        let heads = self.heads.as_slice();
-        let keys = self.keys.as_slice();
-        let values = self.values.as_slice();
+        let tables = Tables {
+            heads: self.heads.as_slice(),
+            keys: self.keys.as_slice(),
+            values: self.values.as_slice(),
+        };
         let handed = match side {
-            Side::First => walk.next(heads, keys, values, &mut self.supply),
-            Side::Last => walk.next_back(heads, keys, values, &mut self.supply),
+            Side::First => walk.next(&tables, &mut self.supply),
+            Side::Last => walk.next_back(&tables, &mut self.supply),
         };
         self.books[place] = Book::Walk(walk);
         Ok(Answer::Entry(handed?.map(|(key, value)| (key.number, value))))
@@ -277,26 +265,24 @@ impl Desk {
     fn close(&mut self, place: usize) -> Result<Answer, Refusal> {
         let walk = self.book(place)?.walk()?;
         self.books[place] = Book::Bare;
-        let dropped = walk.close(
-            self.heads.as_slice(),
-            self.keys.as_slice(),
-            self.values.as_slice(),
-            &mut self.supply,
-        )?;
+        let tables = Tables {
+            heads: self.heads.as_slice(),
+            keys: self.keys.as_slice(),
+            values: self.values.as_slice(),
+        };
+        let dropped = walk.close(&tables, &mut self.supply)?;
         Ok(Answer::Number(dropped))
     }
 
     fn release(&mut self, place: usize) -> Result<Answer, Refusal> {
         let (root, count) = self.book(place)?.root_and_count()?;
         self.books[place] = Book::Bare;
-        let dropped = release(
-            self.heads.as_slice(),
-            self.keys.as_slice(),
-            self.values.as_slice(),
-            &mut self.supply,
-            root,
-            count,
-        )?;
+        let tables = Tables {
+            heads: self.heads.as_slice(),
+            keys: self.keys.as_slice(),
+            values: self.values.as_slice(),
+        };
+        let dropped = release(&tables, &mut self.supply, root, count)?;
         Ok(Answer::Number(dropped))
     }
 

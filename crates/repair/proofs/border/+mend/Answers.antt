@@ -42,16 +42,16 @@ returns-in_err-child g _ c = λ t o e.
     let lies = subst (λ T. Lies T p.node c.in_ok-len.len) c.as_tables.ensures c.in_ok-len.ensures in
     absurd (joins_not c.args.side T S p.height p.node (omega (arith, k.0, k.2))
     c.in_ok-len.len c.border_entry-idx.result lies.len_is (omega (arith, c.if-len-eq0.false)) c.border_entry-idx.ensures
-    c.join_at.new.tables (g.S.Supply.stock c.join_at.new.supply) _ c.in_err-child.ensures t (subst (λ h. Owns T S h t) (sym k.2) o) (e ∙ sym k.1))
+    c.join.new.tables (g.S.Supply.stock c.join.new.supply) _ c.in_err-child.ensures t (subst (λ h. Owns T S h t) (sym k.2) o) (e ∙ sym k.1))
 
 pub returns : goal.returns
 returns g _ c =
     let s = c.args.side in
     let T = c.args.tables.now in
-    let T₁ = c.join_at.new.tables in
+    let T₁ = c.join.new.tables in
     let T₂ = c.mend.new.tables in
     let S = g.S.Supply.stock c.args.supply.now in
-    let S₁ = g.S.Supply.stock c.join_at.new.supply in
+    let S₁ = g.S.Supply.stock c.join.new.supply in
     let S₂ = g.S.Supply.stock c.mend.new.supply in
     let p = c.in-Internal.parent in
     let k = forced_inner c.args.node p c.in-Internal.ensures in

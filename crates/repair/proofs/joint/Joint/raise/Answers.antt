@@ -2,24 +2,24 @@ use Rattle.std.proofs.Common.{◌∙◌}
 use Rattle.node.proofs.Tabled.{err_not_ok}
 use Rattle.repair.specs.Joint.{Raises}
 use Rattle.repair.proofs.Joining.{no_edge, no_length, raised_none, raised_right, raised_left}
-use Rattle.repair.proofs.joint.raise.Goals as goal
+use Rattle.repair.proofs.joint.Joint.raise.Goals as goal
 
 pub returns-in_err-child : goal.returns-in_err-child
 unfolding Raises
 returns-in_err-child g c = λ S us e ws A l r B w more.
-    absurd (no_edge c.args.side c.args.tables.now c.args.parent.height c.args.parent.node c.args.idx S us e ws A l r B w
-    (c.shown.view_is ∙ c.as_tables-shown.ensures) c.requires c.border_edge.result c.border_edge.ensures c.in_err-child.ensures)
+    absurd (no_edge c.args.self.side c.args.tables.now c.args.self.parent.height c.args.self.parent.node c.args.self.idx S us e ws A l r B w
+    (c.shown.view_is ∙ c.as_tables-shown.ensures) c.args.self.low c.border_edge.result c.border_edge.ensures c.in_err-child.ensures)
 
 pub returns-in_err-len : goal.returns-in_err-len
 unfolding Raises
 returns-in_err-len g c = λ S us e ws A l r B w more.
-    absurd (no_length c.args.side c.args.tables.now c.args.parent.height c.args.parent.node c.args.idx S us e ws A l r B w
+    absurd (no_length c.args.self.side c.args.tables.now c.args.self.parent.height c.args.self.parent.node c.args.self.idx S us e ws A l r B w
     c.as_tables-shown.ensures c.shown.view_is c.border_edge.result c.in_ok-child.child 0 c.border_edge.ensures c.in_ok-child.ensures c.in_err-len.ensures)
 
 pub returns-else-len-lt-B : goal.returns-else-len-lt-B
 unfolding Raises
 returns-else-len-lt-B g c = λ S us e ws A l r B w more.
-    raised_none c.args.side c.args.tables.now c.args.parent.height c.args.parent.node c.args.idx S us e ws A l r B w
+    raised_none c.args.self.side c.args.tables.now c.args.self.parent.height c.args.self.parent.node c.args.self.idx S us e ws A l r B w
     c.as_tables-shown.ensures c.shown.view_is c.border_edge.result c.in_ok-child.child c.in_ok-len.len c.border_edge.ensures c.in_ok-child.ensures c.in_ok-len.ensures.len_is more c.if-len-lt-B.false
 
 pub returns-in_err-bulk_steal_right-in-First : goal.returns-in_err-bulk_steal_right-in-First
@@ -28,7 +28,7 @@ returns-in_err-bulk_steal_right-in-First g c = λ S us e ws A l r B w more.
     let T = c.args.tables.now in
     let T' = c.bulk_steal_right.new.tables in
     let d =
-    raised_right c.args.side T c.args.parent.height c.args.parent.node c.args.idx S us e ws A l r B w
+    raised_right c.args.self.side T c.args.self.parent.height c.args.self.parent.node c.args.self.idx S us e ws A l r B w
     c.as_tables-shown.ensures c.shown.view_is c.border_edge.result c.in_ok-child.child c.in_ok-len.len c.border_edge.ensures c.in_ok-child.ensures c.in_ok-len.ensures.len_is more c.if-len-lt-B.true
     T' _ c.in-First.is c.in_err-bulk_steal_right-in-First.ensures in
     absurd (err_not_ok _ _ d.0)
@@ -39,7 +39,7 @@ returns-in_ok-bulk_steal_right-in-First g c = λ S us e ws A l r B w more.
     let T = c.args.tables.now in
     let T' = c.bulk_steal_right.new.tables in
     let d =
-    raised_right c.args.side T c.args.parent.height c.args.parent.node c.args.idx S us e ws A l r B w
+    raised_right c.args.self.side T c.args.self.parent.height c.args.self.parent.node c.args.self.idx S us e ws A l r B w
     c.as_tables-shown.ensures c.shown.view_is c.border_edge.result c.in_ok-child.child c.in_ok-len.len c.border_edge.ensures c.in_ok-child.ensures c.in_ok-len.ensures.len_is more c.if-len-lt-B.true
     T' _ c.in-First.is c.in_ok-bulk_steal_right-in-First.ensures in
     d.1
@@ -50,7 +50,7 @@ returns-in_err-bulk_steal_left-in-Last g c = λ S us e ws A l r B w more.
     let T = c.args.tables.now in
     let T' = c.bulk_steal_left.new.tables in
     let d =
-    raised_left c.args.side T c.args.parent.height c.args.parent.node c.args.idx S us e ws A l r B w
+    raised_left c.args.self.side T c.args.self.parent.height c.args.self.parent.node c.args.self.idx S us e ws A l r B w
     c.as_tables-shown.ensures c.shown.view_is c.border_edge.result c.in_ok-child.child c.in_ok-len.len c.border_edge.ensures c.in_ok-child.ensures c.in_ok-len.ensures.len_is more c.if-len-lt-B.true
     T' _ c.in-Last.is c.in_err-bulk_steal_left-in-Last.ensures in
     absurd (err_not_ok _ _ d.0)
@@ -61,7 +61,7 @@ returns-in_ok-bulk_steal_left-in-Last g c = λ S us e ws A l r B w more.
     let T = c.args.tables.now in
     let T' = c.bulk_steal_left.new.tables in
     let d =
-    raised_left c.args.side T c.args.parent.height c.args.parent.node c.args.idx S us e ws A l r B w
+    raised_left c.args.self.side T c.args.self.parent.height c.args.self.parent.node c.args.self.idx S us e ws A l r B w
     c.as_tables-shown.ensures c.shown.view_is c.border_edge.result c.in_ok-child.child c.in_ok-len.len c.border_edge.ensures c.in_ok-child.ensures c.in_ok-len.ensures.len_is more c.if-len-lt-B.true
     T' _ c.in-Last.is c.in_ok-bulk_steal_left-in-Last.ensures in
     d.1
