@@ -1,7 +1,6 @@
 //! Insertion from a node down to a leaf, and the splits on the way back.
 
-ghost use Rattle.std.specs.Prelude.{◌≡◌, ◌+◌, ◌<◌, ◌≤◌};
-ghost use Rattle.insertion.specs.Descent.{Settles, TookFor, Descends, above_child};
+ghost use Rattle.std.specs.Prelude.{◌+◌, ◌≤◌};
 
 use map::insert::{insert_fit, insert_full, replace_value};
 use map::search::search_in;
@@ -20,83 +19,93 @@ pub enum InsertResult<K, V> {
     Split(K, V, u16),
 }
 
-/// A number, where `needed` may be taken.
-fn take_for<S: Supply>(supply: &mut S, needed: u16) -> Result<u16, Fault>
-    requires { 0 < needed }
-    ensures { TookFor (S.stock supply.old) (S.stock supply.new) needed result }
-{
-    spare(supply, needed)?;
-    supply.take()
+/// A node on the way down, and how many more nodes its ancestors take if it is split.
+#[derive(Clone, Copy)]
+pub(crate) struct Way {
+    pub(crate) node: NodeRef,
+    pub(crate) above: u16,
+    ghost low: { above + node.height ≤ 6 },
 }
 
-/// Puts an entry at `idx` into a node, which is split where it is full. Above the leaves `edge` goes behind the entry.
-/// `above` is how many more nodes the ancestors take if this node is split: with fewer left nothing is done.
-fn settle<K: Copy, V: Copy, S: Supply>(
-    tables: &mut TablesMut<'_, K, V>,
-    supply: &mut S,
-    node: NodeRef,
-    idx: usize,
-    key: K,
-    val: V,
-    edge: u16,
-    above: u16,
-) -> Result<InsertResult<K, V>, Fault>
-    requires { above ≤ 6 }
-    ensures { Settles tables.old tables.new (S.stock supply.old) (S.stock supply.new) node.height node.node idx (key, val) edge above result }
-{
-    let len = tables.as_tables().len_in(node.node)?;
-    if len < CAPACITY {
-        insert_fit(tables, node, idx, key, val, edge)?;
-        return Ok(InsertResult::Fit);
-    }
-    let right = take_for(supply, above + 1)?;
-    let (k, v) = insert_full(tables, node, idx, key, val, edge, right)?;
-    Ok(InsertResult::Split(k, v, right))
-}
+impl Way {
+    ghost use Rattle.std.specs.Prelude.{◌≡◌, ◌+◌};
+    ghost use Rattle.insertion.specs.Descent.{TookFor, Settles, Descends, above_child};
 
-/// How many nodes the ancestors of a child take if it is split, where its parent has `len` entries and its own ancestors would take `above`.
-fn above_child(len: u16, above: u16) -> u16
-    requires { above ≤ 6 }
-    ensures { result ≡ above_child len above }
-{
-    if (len as usize) < CAPACITY {
-        0
-    } else {
-        above + 1
-    }
-}
-
-/// Puts an entry in under `node`: at the key that is the same as `key` its value is replaced, else the entry goes into the leaf where it belongs,
-/// and nodes that are full are split on the way back. `above` is how many more nodes the ancestors take if this node is split.
-pub(crate) fn insert_under<K: KeyOrder, V: Copy, S: Supply>(
-    tables: &mut TablesMut<'_, K, V>,
-    supply: &mut S,
-    node: NodeRef,
-    key: K,
-    val: V,
-    above: u16,
-) -> Result<InsertResult<K, V>, Fault>
-    requires { above + node.height ≤ 6 }
-    ensures { Descends (K.KeyOrder.compares key) tables.old tables.new (S.stock supply.old) (S.stock supply.new) node.height node.node (key, val) above result }
-{
-    let (found, _) = search_in(&tables.as_tables(), node.node, &key)?;
-    match found {
-        SearchResult::Found(idx) => {
-            let old = replace_value(tables, node.node, idx, val)?;
-            Ok(InsertResult::Replaced(old))
+    /// How many nodes the ancestors of a child take if it is split, where this node has `len` entries.
+    fn above_child(self, len: u16) -> u16
+        ensures { result ≡ above_child len self.above }
+    {
+        if (len as usize) < CAPACITY {
+            0
+        } else {
+            self.above + 1
         }
-        SearchResult::GoDown(idx) => match node.force() {
-            ForceResult::Leaf(_) => settle(tables, supply, node, idx, key, val, 0, above),
-            ForceResult::Internal(inner) => {
-                let head = tables.heads[inner.node as usize];
-                let child = inner.child(head.edges[idx]);
-                let higher = above_child(head.len, above);
-                let below = insert_under(tables, supply, child, key, val, higher)?;
-                let InsertResult::Split(k, v, right) = below else {
-                    return Ok(below);
-                };
-                settle(tables, supply, node, idx, k, v, right, above)
+    }
+
+    /// A number, where one may be taken for the node and each ancestor that is split with it.
+    fn take<S: Supply>(self, supply: &mut S) -> Result<u16, Fault>
+        ensures { TookFor (S.stock supply.old) (S.stock supply.new) (self.above + 1) result }
+    {
+        spare(supply, self.above + 1)?;
+        supply.take()
+    }
+
+    /// Puts an entry at `idx` into the node, which is split where it is full. Above the leaves `edge` goes behind the entry.
+    /// With fewer numbers left than this node and its ancestors take nothing is done.
+    fn settle<K: Copy, V: Copy, S: Supply>(
+        self,
+        tables: &mut TablesMut<'_, K, V>,
+        supply: &mut S,
+        idx: usize,
+        key: K,
+        val: V,
+        edge: u16,
+    ) -> Result<InsertResult<K, V>, Fault>
+        ensures { Settles tables.old tables.new (S.stock supply.old) (S.stock supply.new) self.node.height self.node.node idx (key, val) edge self.above result }
+    {
+        let len = tables.as_tables().len_in(self.node.node)?;
+        if len < CAPACITY {
+            insert_fit(tables, self.node, idx, key, val, edge)?;
+            return Ok(InsertResult::Fit);
+        }
+        let right = self.take(supply)?;
+        let (k, v) = insert_full(tables, self.node, idx, key, val, edge, right)?;
+        Ok(InsertResult::Split(k, v, right))
+    }
+
+    /// Puts an entry in under the node: at the key that is the same as `key` its value is replaced, else the entry goes into the leaf where it
+    /// belongs, and nodes that are full are split on the way back.
+    pub(crate) fn insert_under<K: KeyOrder, V: Copy, S: Supply>(
+        self,
+        tables: &mut TablesMut<'_, K, V>,
+        supply: &mut S,
+        key: K,
+        val: V,
+    ) -> Result<InsertResult<K, V>, Fault>
+        ensures { Descends (K.KeyOrder.compares key) tables.old tables.new (S.stock supply.old) (S.stock supply.new) self.node.height self.node.node (key, val) self.above result }
+    {
+        let (found, _) = search_in(&tables.as_tables(), self.node.node, &key)?;
+        match found {
+            SearchResult::Found(idx) => {
+                let old = replace_value(tables, self.node.node, idx, val)?;
+                Ok(InsertResult::Replaced(old))
             }
-        },
+            SearchResult::GoDown(idx) => match self.node.force() {
+                ForceResult::Leaf(_) => self.settle(tables, supply, idx, key, val, 0),
+                ForceResult::Internal(inner) => {
+                    let head = tables.heads[inner.node as usize];
+                    let child = inner.child(head.edges[idx]);
+                    let way = Way {
+                        node: child,
+                        above: self.above_child(head.len),
+                    };
+                    let below = way.insert_under(tables, supply, key, val)?;
+                    let InsertResult::Split(k, v, right) = below else {
+                        return Ok(below);
+                    };
+                    self.settle(tables, supply, idx, k, v, right)
+                }
+            },
+        }
     }
 }

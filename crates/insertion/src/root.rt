@@ -3,7 +3,7 @@
 ghost use Rattle.std.specs.Prelude.{◌≡◌, ◌≤◌};
 ghost use Rattle.insertion.specs.Roots.{Begins, Crowns, Enters};
 
-use crate::descent::{InsertResult, insert_under};
+use crate::descent::{InsertResult, Way};
 use map::insert::insert_fit;
 use node::count::MAX_HEIGHT;
 use node::level::{new_leaf, push_level};
@@ -64,7 +64,11 @@ pub fn try_insert<K: KeyOrder, V: Copy, S: Supply>(
     if root.height > MAX_HEIGHT {
         return Err(Fault::Breach);
     }
-    let done = insert_under(tables, supply, root, key, val, 1)?;
+    let way = Way {
+        node: root,
+        above: 1,
+    };
+    let done = way.insert_under(tables, supply, key, val)?;
     match done {
         InsertResult::Replaced(old) => Ok((root, Some(old))),
         InsertResult::Fit => Ok((root, None)),
