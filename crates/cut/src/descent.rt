@@ -34,7 +34,6 @@ pub(crate) fn cut_under<K: KeyOrder, V: Copy, Q: Query<K>>(
     right: u16,
     query: &Q,
 ) -> Result<usize, Fault>
-    requires { node.height ≤ 5 }
     ensures bound { IfOk result (λ n. n ≤ 11 * (node.height + 1)) }
     ensures cuts { Cuts (Q.Placing.places query.now) tables.old tables.new node.height node.node right result }
 {
