@@ -19,14 +19,12 @@ returns-in_err-push_level g c = rw (← c.tables.view_is) (λ l y sized fits u v
 pub returns-in_err-insert_fit : goal.returns-in_err-insert_fit
 unfolding Crowns
 returns-in_err-insert_fit g c = rw (← c.tables.view_is) (λ l y sized fits u v at-l at_y owned enough.
-    let t = c.tables.inside in
-    absurd (err_not_ok _ _ (new_root t.heads.now t.keys.now t.values.now c.insert_fit.new.tables _ _ c.args.root.height c.in_ok-node.node (c.args.key, c.args.val) _ l y c.in_ok-node.ensures.taken sized u v at-l at_y owned
+    absurd (err_not_ok _ _ (new_root _ _ _ _ _ _ c.args.root.height c.in_ok-node.node _ _ l y c.in_ok-node.ensures.taken sized u v at-l at_y owned
     c.in_ok-push_level.ensures c.in_err-insert_fit.ensures).0))
 
 pub returns : goal.returns
 unfolding Crowns
 returns g c = rw (← c.tables.view_is) (λ l y sized fits u v at-l at_y owned enough.
-    let t = c.tables.inside in
-    let q = new_root t.heads.now t.keys.now t.values.now c.insert_fit.new.tables _ _ c.args.root.height c.in_ok-node.node (c.args.key, c.args.val) _ l y c.in_ok-node.ensures.taken sized u v at-l at_y owned
+    let q = new_root _ _ _ _ _ _ c.args.root.height c.in_ok-node.node _ _ l y c.in_ok-node.ensures.taken sized u v at-l at_y owned
     c.in_ok-push_level.ensures c.in_ok-insert_fit.ensures in
     (c.in_ok-node.node, ap (λ k. Ok (record { node = c.in_ok-node.node; height = k })) (let z : c.args.root.height + 1 ≡ suc c.args.root.height = omega arith in z), q.1))

@@ -5,14 +5,12 @@ use Rattle.insertion.proofs.root.insert_first.Goals as goal
 
 pub returns-in_err-insert_fit : goal.returns-in_err-insert_fit
 returns-in_err-insert_fit g c = rw (← c.tables.view_is) (λ sized fits.
-    let t = c.tables.inside in
-    absurd (err_not_ok _ _ (first_leaf t.heads.now t.keys.now t.values.now c.insert_fit.new.tables _ _ c.in_ok-node.node (c.args.key, c.args.val) _ c.in_ok-node.ensures.taken sized
+    absurd (err_not_ok _ _ (first_leaf _ _ _ _ _ _ c.in_ok-node.node _ _ c.in_ok-node.ensures.taken sized
     c.in_ok-new_leaf.ensures c.in_err-insert_fit.ensures).0))
 
 pub returns : goal.returns
 returns g c = rw (← c.tables.view_is) (λ sized fits.
-    let t = c.tables.inside in
-    let q = first_leaf t.heads.now t.keys.now t.values.now c.insert_fit.new.tables _ _ c.in_ok-node.node (c.args.key, c.args.val) _ c.in_ok-node.ensures.taken sized
+    let q = first_leaf _ _ _ _ _ _ c.in_ok-node.node _ _ c.in_ok-node.ensures.taken sized
     c.in_ok-new_leaf.ensures c.in_ok-insert_fit.ensures in
     record {
       declined = λ l. absurd (omega (arith, c.in_ok-node.ensures.taken.allowance));

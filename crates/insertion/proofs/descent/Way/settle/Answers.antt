@@ -12,26 +12,22 @@ use Rattle.insertion.proofs.descent.Way.settle.Goals as goal
 pub returns-in_err-len : goal.returns-in_err-len
 unfolding Settles
 returns-in_err-len g c es ks new sized fits w others low comes owned =
-    absurd (held_not_strange (c.args.tables.now) c.args.self.node.height c.args.self.node.node (mk c.args.self.node.node es (seated c.args.idx new ks)) sized w refl (subst (λ T. Strange T c.args.self.node.node) c.as_tables.ensures c.in_err-len.ensures))
+    absurd (held_not_strange _ c.args.self.node.height c.args.self.node.node (mk c.args.self.node.node es (seated c.args.idx new ks)) sized w refl (subst (λ T. Strange T c.args.self.node.node) c.as_tables.ensures c.in_err-len.ensures))
 
 pub returns-in_err-insert_fit : goal.returns-in_err-insert_fit
 unfolding Settles
 returns-in_err-insert_fit g c es ks new sized fits w others low comes owned =
-    let T = c.args.tables.now in
-    let T' = c.insert_fit.new.tables in
-    let n = held_long T c.args.self.node.height c.args.self.node.node es (seated c.args.idx new ks) c.as_tables.ensures c.in_ok-len.ensures w in
-    absurd (err_not_ok _ _ (settled_fit T T' (g.S.Supply.stock c.args.supply.now) c.args.self.node.height c.args.self.node.node c.args.idx (c.args.key, c.args.val) c.args.edge es ks new sized fits w others low comes owned
+    let n = held_long _ c.args.self.node.height c.args.self.node.node es (seated c.args.idx new ks) c.as_tables.ensures c.in_ok-len.ensures w in
+    absurd (err_not_ok _ _ (settled_fit _ _ (g.S.Supply.stock c.args.supply.now) c.args.self.node.height c.args.self.node.node c.args.idx (c.args.key, c.args.val) c.args.edge es ks new sized fits w others low comes owned
     0 _ (omega (arith, c.if-len-lt-CAPACITY.true, n)) c.in_err-insert_fit.ensures).0)
 
 pub returns-then-len-lt-CAPACITY : goal.returns-then-len-lt-CAPACITY
 unfolding Settles
 returns-then-len-lt-CAPACITY g c es ks new sized fits w others low comes owned =
-    let T = c.args.tables.now in
-    let T' = c.insert_fit.new.tables in
-    let n = held_long T c.args.self.node.height c.args.self.node.node es (seated c.args.idx new ks) c.as_tables.ensures c.in_ok-len.ensures w in
+    let n = held_long _ c.args.self.node.height c.args.self.node.node es (seated c.args.idx new ks) c.as_tables.ensures c.in_ok-len.ensures w in
     let l : length es < 11 = omega (arith, c.if-len-lt-CAPACITY.true, n) in
     record {
-      fits = λ _ fresh. (settled_fit T T' (g.S.Supply.stock c.args.supply.now) c.args.self.node.height c.args.self.node.node c.args.idx (c.args.key, c.args.val) c.args.edge es ks new sized fits w others low comes owned
+      fits = λ _ fresh. (settled_fit _ _ (g.S.Supply.stock c.args.supply.now) c.args.self.node.height c.args.self.node.node c.args.idx (c.args.key, c.args.val) c.args.edge es ks new sized fits w others low comes owned
           fresh _ l c.in_ok-insert_fit.ensures).1;
       declined = λ f _. absurd (omega arith);
       splits = λ f _. absurd (omega arith);
@@ -40,38 +36,30 @@ returns-then-len-lt-CAPACITY g c es ks new sized fits w others low comes owned =
 pub returns-in_err-right : goal.returns-in_err-right
 unfolding Settles
 returns-in_err-right g c es ks new sized fits w others low comes owned =
-    let T = c.args.tables.now in
-    let n = held_long T c.args.self.node.height c.args.self.node.node es (seated c.args.idx new ks) c.as_tables.ensures c.in_ok-len.ensures w in
+    let n = held_long _ c.args.self.node.height c.args.self.node.node es (seated c.args.idx new ks) c.as_tables.ensures c.in_ok-len.ensures w in
     let l : 11 ≤ length es = omega (arith, c.if-len-lt-CAPACITY.false, n) in
     let d = c.in_err-right.ensures in
+    let p = err_from_is_err_and c.from_residual-in_err-right.result c.from_residual-in_err-right.ensures.1 in
     record {
       fits = λ f _. absurd (omega arith);
-      declined = λ _ _. (
-        let p = err_from_is_err_and c.from_residual-in_err-right.result c.from_residual-in_err-right.ensures.1 in
-            p.1 ∙ ap Err (p.2 ∙ d.1),
-        record { tables_same = refl; stock_same = d.2 },
-      );
+      declined = λ _ _. (p.1 ∙ ap Err (p.2 ∙ d.1), record { tables_same = refl; stock_same = d.2 });
       splits = λ _ f. absurd (omega (arith, d.0));
     }
 
 pub returns-in_err-k : goal.returns-in_err-k
 unfolding Settles
 returns-in_err-k g c es ks new sized fits w others low comes owned =
-    let T = c.args.tables.now in
-    let T' = c.insert_full.new.tables in
-    let n = held_long T c.args.self.node.height c.args.self.node.node es (seated c.args.idx new ks) c.as_tables.ensures c.in_ok-len.ensures w in
+    let n = held_long _ c.args.self.node.height c.args.self.node.node es (seated c.args.idx new ks) c.as_tables.ensures c.in_ok-len.ensures w in
     let l : 11 ≤ length es = omega (arith, c.if-len-lt-CAPACITY.false, n) in
-    absurd (err_not_ok _ _ (settled_full T T' (g.S.Supply.stock c.args.supply.now) c.args.self.node.height c.args.self.node.node c.args.idx (c.args.key, c.args.val) c.args.edge es ks new sized fits w others low comes owned
+    absurd (err_not_ok _ _ (settled_full _ _ (g.S.Supply.stock c.args.supply.now) c.args.self.node.height c.args.self.node.node c.args.idx (c.args.key, c.args.val) c.args.edge es ks new sized fits w others low comes owned
     (g.S.Supply.stock c.take.new.supply) c.in_ok-right.right _ l c.in_ok-right.ensures.0 c.in_err-k.ensures.left c.in_err-k.ensures.right).0)
 
 pub returns : goal.returns
 unfolding Settles
 returns g c es ks new sized fits w others low comes owned =
-    let T = c.args.tables.now in
-    let T' = c.insert_full.new.tables in
-    let n = held_long T c.args.self.node.height c.args.self.node.node es (seated c.args.idx new ks) c.as_tables.ensures c.in_ok-len.ensures w in
+    let n = held_long _ c.args.self.node.height c.args.self.node.node es (seated c.args.idx new ks) c.as_tables.ensures c.in_ok-len.ensures w in
     let l : 11 ≤ length es = omega (arith, c.if-len-lt-CAPACITY.false, n) in
-    let d = settled_full T T' (g.S.Supply.stock c.args.supply.now) c.args.self.node.height c.args.self.node.node c.args.idx (c.args.key, c.args.val) c.args.edge es ks new sized fits w others low comes owned
+    let d = settled_full _ _ (g.S.Supply.stock c.args.supply.now) c.args.self.node.height c.args.self.node.node c.args.idx (c.args.key, c.args.val) c.args.edge es ks new sized fits w others low comes owned
     (g.S.Supply.stock c.take.new.supply) c.in_ok-right.right _ l c.in_ok-right.ensures.0 c.in_ok-k.ensures.left c.in_ok-k.ensures.right in
     record {
       fits = λ f _. absurd (omega arith);
