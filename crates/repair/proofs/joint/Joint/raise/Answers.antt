@@ -25,43 +25,27 @@ returns-else-len-lt-B g c = λ S us e ws A l r B w more.
 pub returns-in_err-bulk_steal_right-in-First : goal.returns-in_err-bulk_steal_right-in-First
 unfolding Raises
 returns-in_err-bulk_steal_right-in-First g c = λ S us e ws A l r B w more.
-    let T = c.args.tables.now in
-    let T' = c.bulk_steal_right.new.tables in
-    let d =
-    raised_right c.args.self.side T c.args.self.parent.height c.args.self.parent.node c.args.self.idx S us e ws A l r B w
+    absurd (err_not_ok _ _ (raised_right c.args.self.side c.args.tables.now c.args.self.parent.height c.args.self.parent.node c.args.self.idx S us e ws A l r B w
     c.as_tables-shown.ensures c.shown.view_is c.border_edge.result c.in_ok-child.child c.in_ok-len.len c.border_edge.ensures c.in_ok-child.ensures c.in_ok-len.ensures.len_is more c.if-len-lt-B.true
-    T' _ c.in-First.is c.in_err-bulk_steal_right-in-First.ensures in
-    absurd (err_not_ok _ _ d.0)
+    c.bulk_steal_right.new.tables _ c.in-First.is c.in_err-bulk_steal_right-in-First.ensures).0)
 
 pub returns-in_ok-bulk_steal_right-in-First : goal.returns-in_ok-bulk_steal_right-in-First
 unfolding Raises
 returns-in_ok-bulk_steal_right-in-First g c = λ S us e ws A l r B w more.
-    let T = c.args.tables.now in
-    let T' = c.bulk_steal_right.new.tables in
-    let d =
-    raised_right c.args.self.side T c.args.self.parent.height c.args.self.parent.node c.args.self.idx S us e ws A l r B w
+    (raised_right c.args.self.side c.args.tables.now c.args.self.parent.height c.args.self.parent.node c.args.self.idx S us e ws A l r B w
     c.as_tables-shown.ensures c.shown.view_is c.border_edge.result c.in_ok-child.child c.in_ok-len.len c.border_edge.ensures c.in_ok-child.ensures c.in_ok-len.ensures.len_is more c.if-len-lt-B.true
-    T' _ c.in-First.is c.in_ok-bulk_steal_right-in-First.ensures in
-    d.1
+    c.bulk_steal_right.new.tables _ c.in-First.is c.in_ok-bulk_steal_right-in-First.ensures).1
 
 pub returns-in_err-bulk_steal_left-in-Last : goal.returns-in_err-bulk_steal_left-in-Last
 unfolding Raises
 returns-in_err-bulk_steal_left-in-Last g c = λ S us e ws A l r B w more.
-    let T = c.args.tables.now in
-    let T' = c.bulk_steal_left.new.tables in
-    let d =
-    raised_left c.args.self.side T c.args.self.parent.height c.args.self.parent.node c.args.self.idx S us e ws A l r B w
+    absurd (err_not_ok _ _ (raised_left c.args.self.side c.args.tables.now c.args.self.parent.height c.args.self.parent.node c.args.self.idx S us e ws A l r B w
     c.as_tables-shown.ensures c.shown.view_is c.border_edge.result c.in_ok-child.child c.in_ok-len.len c.border_edge.ensures c.in_ok-child.ensures c.in_ok-len.ensures.len_is more c.if-len-lt-B.true
-    T' _ c.in-Last.is c.in_err-bulk_steal_left-in-Last.ensures in
-    absurd (err_not_ok _ _ d.0)
+    c.bulk_steal_left.new.tables _ c.in-Last.is c.in_err-bulk_steal_left-in-Last.ensures).0)
 
 pub returns-in_ok-bulk_steal_left-in-Last : goal.returns-in_ok-bulk_steal_left-in-Last
 unfolding Raises
 returns-in_ok-bulk_steal_left-in-Last g c = λ S us e ws A l r B w more.
-    let T = c.args.tables.now in
-    let T' = c.bulk_steal_left.new.tables in
-    let d =
-    raised_left c.args.self.side T c.args.self.parent.height c.args.self.parent.node c.args.self.idx S us e ws A l r B w
+    (raised_left c.args.self.side c.args.tables.now c.args.self.parent.height c.args.self.parent.node c.args.self.idx S us e ws A l r B w
     c.as_tables-shown.ensures c.shown.view_is c.border_edge.result c.in_ok-child.child c.in_ok-len.len c.border_edge.ensures c.in_ok-child.ensures c.in_ok-len.ensures.len_is more c.if-len-lt-B.true
-    T' _ c.in-Last.is c.in_ok-bulk_steal_left-in-Last.ensures in
-    d.1
+    c.bulk_steal_left.new.tables _ c.in-Last.is c.in_ok-bulk_steal_left-in-Last.ensures).1
