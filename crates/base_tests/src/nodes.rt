@@ -25,8 +25,7 @@ const TOP: NodeRef = NodeRef { node: 2, height: 1 };
 /// The even keys from 2 to 22 in the leaf 0, each with ten times itself.
 fn evens(tables: &mut TablesMut<'_, u32, u32>) -> Result<(), Fail> {
     new_leaf(tables.heads, 0)?;
-    for idx in 0..11usize {
-        let key = idx as u32 * 2 + 2;
+    for (idx, key) in (2..24).step_by(2).enumerate() {
         LEAF.insert_fit(tables, idx, key, key * 10)?;
     }
     Ok(())

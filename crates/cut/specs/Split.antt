@@ -5,7 +5,7 @@
 --   Halves        so it is with h + 1 numbers left to take; with fewer nothing is done
 --   SplitsOff     so it is of a tree of `count` entries, with the lengths of both parts; of an empty one nothing is done
 use Rattle.node.specs.Kinds.{root_of}
-use Rattle.std.specs.Prelude.{◌≡◌, ℕ, ◌+◌, ◌<◌, ◌≤◌, List, length, Some, None, Ok, Err, Result, MatchResult}
+use Rattle.std.specs.Prelude.{◌≡◌, ℕ, ◌+◌, ◌<◌, ◌≤◌, List, length, Some, None, Ok, Err, Result}
 use Rattle.std.specs.declared.cmp.Ordering.{Ordering}
 use Rattle.supply.specs.declared.faults.Fault.{Fault}
 use Rattle.supply.specs.declared.faults.Fault.TheVariants.{Short}

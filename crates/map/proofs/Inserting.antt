@@ -1,16 +1,10 @@
 -- An entry put into a node of either kind. Assumes nothing.
 use Rattle.node.proofs.Weaves.{all_front, all_back}
-use Rattle.std.proofs.Common.{◌≡◌, ℕ, suc, ◌+◌, ◌-◌, ◌<◌, ◌≤◌, Bool, true, false, cond, eqb, List, [], ◌∷◌, ◌++◌, length, Ok, All, Result, sym, refl, ap, ◌∙◌, subst, arith, length-append, eqb-true}
-use borrow.Author.Tests.{eqb-false}
+use Rattle.std.proofs.Common.{◌≡◌, ℕ, suc, ◌+◌, ◌-◌, ◌<◌, ◌≤◌, List, [], ◌∷◌, ◌++◌, length, Ok, All, Result, sym, ap, ◌∙◌, subst, arith, length-append}
 use Rattle.std.proofs.lemmas.List.{nil_from_length}
 use Rattle.std.proofs.lemmas.List.Elements.{All-weaker, All-append}
 use Rattle.std.proofs.lemmas.Bool.Decides.{nat_tests}
 use Rattle.supply.specs.declared.faults.Fault.{Fault}
-use Rattle.node.specs.declared.nodes.NodeRef.{NodeRef}
-use Rattle.node.specs.declared.nodes.Leaf.{Leaf}
-use Rattle.node.specs.declared.nodes.Internal.{Internal}
-use Rattle.node.specs.declared.nodes.ForceResult.TheVariants as kind
-use Rattle.node.specs.Kinds.{forced}
 use Rattle.node.specs.Store.{Tables, Sized, Node, Linked, Changed, times}
 use Rattle.node.proofs.Adopts.{times_append}
 use Rattle.node.proofs.Frames.{node_kept, linked_kept, linked_parts}

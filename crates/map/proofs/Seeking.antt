@@ -15,8 +15,6 @@ use Rattle.node.proofs.Forced.{forced_inner}
 use Rattle.node.specs.Cells.{span, Run}
 use Rattle.node.specs.Shape.{Tree, node, none, number, row, kids, kid}
 use Rattle.node.specs.Store.{Tables, Sized, Node, Holds, head_at, first, second, numbers}
-use Rattle.node.specs.Operations.{Strange}
-use Rattle.node.proofs.Tabled.{not_strange}
 use Rattle.node.proofs.Runs.{run_at, edge_is}
 use Rattle.node.proofs.Frames.{height_suc, holds_node, holds_fan, holds_kid}
 use Rattle.map.specs.Lookup.{nth, seek, looks, value_of, SearchedIn, keys_at}
@@ -160,9 +158,6 @@ child_under place T n inner x i made t w at v e f node-is height-is =
       b.0 ∙ ap (λ h. value_of (seek (λ e. place (first e)) h (kid t i))) (sym z),
       b.1 ∙ ap (λ h. made + looks (λ e. place (first e)) h (kid t i)) (sym z),
     )
-
-pub held_not_strange : {K V : Type 0} (T : Tables K V) (h m : ℕ) (t : Tree (K × V)) → Sized T → Holds T h t → number t ≡ m → Strange T m → ⊥
-held_not_strange T h m t s w e z = not_strange T (number t) (row t) (numbers t) s (holds_node T h t w) (subst (Strange T) (sym e) z)
 
 pub answer_below : {X E : Type 0} (v x y : X) (b c m n : ℕ) → ◌≡◌ {A = X × ℕ} (v, b) (x, m) → y ≡ x → n ≡ c + m → ◌≡◌ {A = Result (X × ℕ) E} (Ok (v, c + b)) (Ok (y, n))
 answer_below v x y b c m n r p q = ap (λ a. Ok (a.0, c + a.1)) r ∙ ap₂ (λ a k. Ok (a, k)) (sym p) (sym q)

@@ -5,12 +5,11 @@
 --   looks place h t    the comparisons made, the sum over the nodes that are visited
 --   Sought place l r   r is an entry of the list l whose key is the same as the query, or there is none in l
 --   Seeks              in tables that hold a tree, the value and the count are those of the rule
-use Rattle.std.specs.Prelude.{◌≡◌, ℕ, zero, suc, ◌+◌, ◌*◌, ◌<◌, ◌≤◌, true, cond, List, [], ◌∷◌, ◌++◌, Some, None, Ok, All, Contains, Option, Result, MatchOption, ◌≢◌, slice_index_or}
+use Rattle.std.specs.Prelude.{◌≡◌, ℕ, zero, suc, ◌+◌, ◌*◌, ◌<◌, ◌≤◌, true, cond, List, [], ◌∷◌, ◌++◌, Some, None, Ok, All, Contains, Option, Result, MatchOption, ◌≢◌}
 use Rattle.std.specs.declared.cmp.Ordering.TheVariants.{Equal}
 use Rattle.std.specs.declared.cmp.Ordering.{Ordering}
 use Rattle.supply.specs.declared.faults.Fault.{Fault}
 use Rattle.order.specs.declared.search.SearchResult.{SearchResult}
-use Rattle.order.specs.declared.search.SearchResult.TheVariants.{Found, GoDown}
 use Rattle.order.specs.Found.{first_not_below, found_at, comparisons, searched, index_of, is_found}
 use Rattle.node.specs.Cells.{span}
 use Rattle.node.specs.Operations.{Lies}

@@ -7,18 +7,15 @@ ghost use Rattle.map.specs.Replacing.{AmendList, AmendFormed};
 pub fn lookup_stands<K, V, Q>()
     ensures finds { LookupFinds K V Q }
     ensures alone { LookupAlone K V Q }
-{
-}
+{}
 
 /// A lookup in a formed tree of height h makes at most 11 · (h + 1) comparisons.
 pub fn bound_stands<E>()
     ensures { LookupBound E }
-{
-}
+{}
 
 /// A replacement changes the entry that the lookup finds, and nothing else in the list; a formed tree stays formed, of the same nodes.
 pub fn replacement_stands<E>()
     ensures list { AmendList E }
     ensures formed { AmendFormed E }
-{
-}
+{}

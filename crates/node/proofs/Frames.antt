@@ -7,9 +7,11 @@ use Rattle.std.proofs.lemmas.List.{nil_from_length, map-append, get_or_append_le
 use Rattle.std.proofs.lemmas.Bool.{cases_lt}
 use Rattle.node.specs.Cells.{Run}
 use Rattle.node.specs.Shape.{Tree, node, none, number, row, kids, kid, mk, total}
-use Rattle.node.specs.Store.{Tables, Node, Link, Linked, SameBody, SameLink, Changed, Holds, numbers, times, first, second, itself}
+use Rattle.node.specs.Store.{Tables, Sized, Node, Link, Linked, SameBody, SameLink, Changed, Holds, numbers, times, first, second, itself}
 use Rattle.node.specs.Laws.{occurs, below, Frame, FrameChanged, FrameApart, HeldInside, HeldLow}
+use Rattle.node.specs.Operations.{Strange}
 use Rattle.node.proofs.Adopts.{times_at}
+use Rattle.node.proofs.Tabled.{not_strange}
 use Rattle.node.proofs.Runs.{run_same}
 use Rattle.node.proofs.Weaves.{trees_forest, total_each, total_some, all_both}
 use Rattle.node.proofs.Numbers.{occurs_parts, occurs_root, occurs_below, tops_occur, same_at, low}
@@ -25,6 +27,9 @@ module _ {K V : Type 0} where
   unfolding Holds
   holds_node T zero t w = subst (λ ks. Node T (number t) (row t) ks) (sym (nil_from_length (numbers t) (length-map (kids t) number ∙ w.1))) w.0
   holds_node T (suc h) t w = w.0
+
+  pub held_not_strange : (T : Tables K V) (h m : ℕ) (t : Tree (K × V)) → Sized T → Holds T h t → number t ≡ m → Strange T m → ⊥
+  held_not_strange T h m t s w e z = not_strange T (number t) (row t) (numbers t) s (holds_node T h t w) (subst (Strange T) (sym e) z)
 
   pub holds_leaf : (T : Tables K V) (t : Tree (K × V)) → Holds T zero t → Node T (number t) (row t) [] × (length (kids t) ≡ 0)
   unfolding Holds

@@ -1,5 +1,6 @@
 //! The caller's three tables, which go together in every call.
 
+use crate::count::len_at;
 use crate::head::{CAPACITY, Head};
 use std::marker::Model;
 use supply::Fault;
@@ -36,14 +37,7 @@ impl<K, V> Tables<'_, K, V> {
         if count > MOST || self.keys.len() != cells || self.values.len() != cells {
             return Err(Fault::Breach);
         }
-        if node as usize >= count {
-            return Err(Fault::Breach);
-        }
-        let len = self.heads[node as usize].len as usize;
-        if len > CAPACITY {
-            return Err(Fault::Breach);
-        }
-        Ok(len)
+        len_at(self.heads, node)
     }
 }
 

@@ -13,11 +13,9 @@ pub fn cut_stands<E>()
     ensures sorted { CutSorted E }
     ensures numbers { CutNumbers E }
     ensures bound { CutBound E }
-{
-}
+{}
 
 /// The worked cuts.
 pub fn cases_stand()
     ensures { WorkedCuts }
-{
-}
+{}

@@ -2,13 +2,11 @@
 use Rattle.std.proofs.Common.{◌≡◌, ℕ, sym, subst, arith}
 use Rattle.supply.specs.Stocks.{Stock}
 use Rattle.node.specs.Shape.{Tree, number, row}
-use Rattle.node.specs.Operations.{Strange}
 use Rattle.node.specs.Store.{Tables, Sized, Holds, numbers}
 use Rattle.node.specs.Laws.{occurs}
 use Rattle.node.specs.Balance.{Owns}
 use Rattle.node.proofs.Balances.{balanced_none, balanced_both, beside_none, beside_both, beside_sized}
 use Rattle.node.proofs.Frames.{holds_node}
-use Rattle.node.proofs.Tabled.{not_strange}
 use Rattle.repair.specs.Repair.{Became}
 
 module _ {K V : Type 0} where
@@ -31,6 +29,3 @@ module _ {K V : Type 0} where
     holds = b.holds;
     owned = λ x. omega (arith, b.balanced.marks x, o.owned x);
   }
-
-  pub held_not_strange : (T : Tables K V) (h m : ℕ) (t : Tree (K × V)) → Sized T → Holds T h t → number t ≡ m → Strange T m → ⊥
-  held_not_strange T h m t s w e z = not_strange T (number t) (row t) (numbers t) s (holds_node T h t w) (subst (Strange T) (sym e) z)

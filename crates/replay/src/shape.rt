@@ -44,10 +44,10 @@ impl Shape<'_> {
         let len = CAPACITY.min(head.len as usize);
         let (open, close) = if height == 0 { ("[", "]") } else { ("(", ")") };
         write!(f, "{open}{len}:")?;
-        for idx in 0..=len {
+        for (idx, child) in head.edges[..=len].iter().enumerate() {
             if height > 0 {
                 write!(f, " ")?;
-                self.write_node(f, height - 1, head.edges[idx])?;
+                self.write_node(f, height - 1, *child)?;
             }
             if idx < len {
                 self.write_key(f, node, idx)?;

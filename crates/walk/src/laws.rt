@@ -5,34 +5,26 @@ ghost use Rattle.walk.specs.Laws.{StepTakes, StepEnds, StepsPart, StepsForward, 
 
 /// A step hands out what stands at its end, or none where nothing is left.
 /// In any order of the ends, each entry is handed out once; steps at one end hand out all in order.
-pub fn steps_stand<E>() -> u8
+pub fn steps_stand<E>()
     ensures takes { StepTakes E }
     ensures ends { StepEnds E }
     ensures part { StepsPart E }
     ensures forward { StepsForward E }
     ensures backward { StepsBackward E }
-{
-    0
-}
+{}
 
 /// A change elsewhere leaves a walk as it is.
-pub fn frame_stands<K, V>() -> u8
+pub fn frame_stands<K, V>()
     ensures shown { ShownFrame K V }
     ensures beside { WalkBeside K V }
-{
-    0
-}
+{}
 
 /// Between no edges a tree is shown just where the tables hold it whole.
-pub fn whole_stands<K, V>() -> u8
+pub fn whole_stands<K, V>()
     ensures { ShownWhole K V }
-{
-    0
-}
+{}
 
 /// A worked walk over three nodes.
-pub fn walk_stands() -> u8
+pub fn walk_stands()
     ensures { WorkedWalk }
-{
-    0
-}
+{}

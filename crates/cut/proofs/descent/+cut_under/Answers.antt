@@ -2,7 +2,7 @@ use Rattle.std.proofs.Common.{◌-◌, ◌∙◌, refl, ap, subst, arith}
 use Rattle.node.specs.Operations.{Strange}
 use Rattle.node.proofs.Forced.{forced_leaf, forced_inner}
 use Rattle.node.proofs.Tabled.{err_not_ok}
-use Rattle.repair.proofs.Becoming.{held_not_strange}
+use Rattle.node.proofs.Frames.{held_not_strange}
 use Rattle.cut.specs.Descent.{Stops, Cuts}
 use Rattle.cut.proofs.Descends.{moves, no_edge, cut_leaf, cut_inner, not_refused}
 use Rattle.cut.proofs.descent.+cut_under.Goals as goal

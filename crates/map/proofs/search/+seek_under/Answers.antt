@@ -4,7 +4,8 @@ use Rattle.node.proofs.Neighbouring.{same_edge}
 use Rattle.node.proofs.Forced.{forced_leaf}
 use Rattle.node.proofs.Tabled.{err_not_ok, ok_same}
 use Rattle.map.specs.Lookup.{Seeks}
-use Rattle.map.proofs.Seeking.{sought_here, sought_none, child_under, held_not_strange, answer_below}
+use Rattle.node.proofs.Frames.{held_not_strange}
+use Rattle.map.proofs.Seeking.{sought_here, sought_none, child_under, answer_below}
 use Rattle.map.proofs.search.+seek_under.Goals as goal
 
 pub returns-in_err-found-clause-seeks : goal.returns-in_err-found-clause-seeks

@@ -1,7 +1,7 @@
 use Rattle.std.proofs.Common.{◌≡◌, ◌+◌, ◌-◌, ◌<◌, ◌≤◌, List, ℕ, length, take, get_or, sym, ap, subst, arith}
 use Rattle.std.proofs.lemmas.Result.{MatchResult-from_err}
 use Rattle.node.specs.Store.{head_in}
-use Rattle.node.specs.Counts.{Reached, Counted, fan}
+use Rattle.node.specs.Counts.{Reached, Counted}
 use Rattle.node.proofs.Recounts.{reached_stands, reached_kid, counted_leaf, summed_more, summed_small, summed_all}
 use Rattle.node.proofs.count.+dfs.Goals as goal
 

@@ -1,7 +1,5 @@
-use Rattle.std.proofs.Common.{◌≡◌, ℕ, sym, ap, ◌∙◌, subst}
+use Rattle.std.proofs.Common.{◌≡◌, ap, ◌∙◌, subst}
 use Rattle.std.proofs.lemmas.Result.{MatchResult-from_err}
-use Rattle.node.specs.declared.ends.Handle.{Handle}
-use Rattle.node.specs.Ends.{end_edge}
 use Rattle.node.specs.Links.{edge}
 use Rattle.node.proofs.Forced.{forced_leaf, forced_inner}
 use Rattle.node.proofs.Descents.{Descent, chain_stands, descent_leaf, descent_more}

@@ -4,7 +4,7 @@ use Rattle.node.specs.Balance.{Owns}
 use Rattle.node.specs.Operations.{Lies, Strange}
 use Rattle.node.proofs.Forced.{forced_leaf, forced_inner}
 use Rattle.repair.specs.Repair.{Mends}
-use Rattle.repair.proofs.Becoming.{held_not_strange}
+use Rattle.node.proofs.Frames.{held_not_strange}
 use Rattle.repair.proofs.Mending.{mends_leaf, mends_none, joins_not, mends_level}
 use Rattle.repair.proofs.Tops.{ref_is}
 use Rattle.repair.proofs.border.+mend.Goals as goal

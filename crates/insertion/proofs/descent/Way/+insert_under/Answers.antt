@@ -2,7 +2,7 @@ use Rattle.std.proofs.Common.{refl, ap, Ok, subst}
 use Rattle.std.proofs.lemmas.Result.{err_from_is_err_and}
 use Rattle.node.specs.Operations.{Strange}
 use Rattle.node.proofs.Tabled.{err_not_ok, ok_same}
-use Rattle.map.proofs.Seeking.{held_not_strange}
+use Rattle.node.proofs.Frames.{held_not_strange}
 use Rattle.insertion.specs.Descent.{Descends}
 use Rattle.insertion.proofs.Steps.{step_found, step_never, step_leaf, step_up, step_split}
 use Rattle.insertion.proofs.descent.Way.+insert_under.Goals as goal

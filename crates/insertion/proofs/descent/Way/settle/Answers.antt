@@ -3,7 +3,7 @@ use Rattle.node.specs.Shape.{mk}
 use Rattle.node.specs.Operations.{Strange}
 use Rattle.node.proofs.Tabled.{err_not_ok, ok_same}
 use Rattle.std.proofs.lemmas.Result.{err_from_is_err_and}
-use Rattle.map.proofs.Seeking.{held_not_strange}
+use Rattle.node.proofs.Frames.{held_not_strange}
 use Rattle.insertion.specs.Grew.{seated}
 use Rattle.insertion.specs.Descent.{Settles}
 use Rattle.insertion.proofs.Settled.{held_long, settled_fit, settled_full, retold}

@@ -1,5 +1,5 @@
-use Rattle.std.proofs.Common.{◌≤◌, ◌<◌, refl, subst, sym, ◌∙◌, arith, length-append}
-use Rattle.node.specs.Store.{Sized, head_at, head_in}
+use Rattle.std.proofs.Common.{refl, subst, sym, ◌∙◌}
+use Rattle.node.specs.Store.{head_in}
 use Rattle.node.specs.Operations.{InsertsFit, Lies}
 use Rattle.node.proofs.Tabled.{relinked_none, refit}
 use Rattle.node.proofs.Inserts.{inserted_node, inserted_rest, no_room}
