@@ -1,8 +1,8 @@
 -- An entry put into a node that has room. Assumes nothing.
-use Rattle.std.proofs.Common.{◌≡◌, ℕ, ◌+◌, ◌-◌, ◌*◌, ◌<◌, ◌≤◌, List, [], ◌∷◌, ◌++◌, length, All, sym, ap, ◌∙◌, subst, arith, length-append}
+use Rattle.std.proofs.Common.{◌≡◌, ℕ, ◌+◌, ◌-◌, ◌*◌, ◌<◌, List, [], ◌∷◌, ◌++◌, length, All, sym, ap, ◌∙◌, subst, arith, length-append}
 use Rattle.node.specs.declared.head.Head.{Head}
 use Rattle.node.specs.Cells.{span, Put, Run}
-use Rattle.node.specs.Store.{Tables, tables, Sized, Node, Linked, Changed, head_at, head_in, first, second, itself}
+use Rattle.node.specs.Store.{tables, Node, Linked, Changed, head_in, first, second, itself}
 use Rattle.node.specs.Links.{Adopted}
 use Rattle.node.specs.Operations.{Children}
 use Rattle.node.proofs.Spans.{span_len}
@@ -83,10 +83,3 @@ module _ {K V : Type 0} (H : List Head) (ks ks' : List K) (vs vs' : List V) (m :
             linked_of G F F ks' vs' m (i + 1) (c ∷ ds) [] adopted (relinked_none F) (λ x. omega (arith, kids.once x, times_append x (c ∷ ds) [])),
             inserted_rest H ks ks' vs vs' m es fs e (cs ++ ds) i n node here room len p q edges F (c ∷ ds) r,
           )
-
--- room is refused only where the node has none
-pub no_room : {K V : Type 0} {T T' : Tables K V} {m i : ℕ} {cs : List ℕ} (es fs : List (K × V)) → T ≡ T' → Sized T' → Node T' m (es ++ fs) cs
-    → length es ≡ i → length (es ++ fs) < 11 → (Sized T → m < length T.heads → (head_at T m).len < 11 → i ≤ (head_at T m).len → ⊥) → ⊥
-no_room {m = m} {i = i} es fs eq sized node here room none =
-    subst (λ t. Sized t → m < length t.heads → (head_at t m).len < 11 → i ≤ (head_at t m).len → ⊥) eq none sized node.inside
-    (omega (arith, node.len_is)) (omega (arith, node.len_is, length-append es fs))

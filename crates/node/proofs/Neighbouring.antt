@@ -1,9 +1,7 @@
 -- Two neighbours among the children of a node. Assumes nothing.
-use Rattle.std.proofs.Common.{◌≡◌, ℕ, ◌+◌, ◌≤◌, ◌⊎◌, List, ◌∷◌, ◌++◌, length, get_or, Ok, Result, sym, ap, ◌∙◌, subst, ⊎_elim, arith, length-append}
+use Rattle.std.proofs.Common.{◌≡◌, ℕ, ◌+◌, ◌≤◌, ◌⊎◌, List, ◌∷◌, ◌++◌, length, get_or, sym, ap, ◌∙◌, subst, ⊎_elim, arith, length-append}
 use Rattle.node.specs.declared.rows.Pair.{Pair}
 use Rattle.node.specs.Store.{Tables, Sized, head_at}
-use Rattle.supply.specs.declared.faults.Fault.{Fault}
-use Rattle.node.specs.Neighbours.{PairedOf}
 use Rattle.node.specs.Operations.{Pairs, Strange}
 use Rattle.node.proofs.Runs.{edge_is}
 use Rattle.node.proofs.Tabled.{not_strange}
@@ -52,10 +50,3 @@ module _ {K V : Type 0} (T : Tables K V) (p i l r : ℕ) (us : List (K × V)) (e
 -- an edge read in the one is that of the other
 pub same_edge : {K V : Type 0} {T T' : Tables K V} (m i x : ℕ) → T ≡ T' → x ≡ get_or (head_at T m).edges i 0 → x ≡ get_or (head_at T' m).edges i 0
 same_edge m i x eq is = is ∙ ap (λ (t : Tables _ _). get_or (head_at t m).edges i 0) eq
-
--- what the neighbours are in the one they are in the other
-pub same_pair : {K V : Type 0} {T T' : Tables K V} {p i : ℕ} {res : Result Pair Fault} → T ≡ T' → PairedOf T p i res
-    → (l r : ℕ) (us : List (K × V)) (e : K × V) (ws es fs : List (K × V)) (as' bs ks ls : List ℕ) → Sized T' → Pairs T' p i l r us e ws es fs as' bs ks ls
-    → res ≡ Ok (record { node = p; idx = i; len = length (us ++ e ∷ ws); left = l; left_len = length es; right = r; right_len = length fs })
-unfolding PairedOf
-same_pair {p = p} {i = i} {res = res} eq held = subst (λ t. PairedOf t p i res) eq held

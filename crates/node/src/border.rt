@@ -1,16 +1,16 @@
 //! A parent and two neighbours among its children: merged, or evened out through the entry between them.
 
 ghost use Rattle.std.specs.Prelude.{◌≡◌, ℕ, ◌+◌, ◌-◌, ◌*◌, ◌<◌, ◌≤◌, List, length, IfOk, Ok, MatchResult};
-ghost use Rattle.node.specs.Store.{Sized, Node};
+ghost use Rattle.node.specs.Store.{tables, Sized, Node};
 ghost use Rattle.node.specs.Operations.{Pairs, Lies, CanMerge, Merges, StealsLeft, StealsRight};
 ghost use Rattle.node.specs.Neighbours.{Paired, PairedOf};
 
-use crate::edges::{edge_at, with_edges_of, without_edge};
+use crate::edges::{edge_at, move_edges, with_edges_of, without_edge};
 use crate::head::{CAPACITY, Head};
 use crate::links::correct_childrens_parent_links;
 use crate::nodes::{Internal, NodeRef};
 use crate::rows::Pair;
-use crate::tables::{Tables, TablesMut};
+use crate::tables::Tables;
 use supply::Fault;
 
 /// Refuses where `count` entries, at least one, cannot go from a node with `source` entries to one with `dest`.
@@ -76,103 +76,118 @@ impl Internal {
     /// Merges the children beside the entry at `idx`, and that entry, into the left one. Answers both: the right one is left over.
     pub fn merge<K: Copy, V: Copy>(
         self,
-        tables: &mut TablesMut<'_, K, V>,
+        heads: &mut [Head],
+        keys: &mut [K],
+        values: &mut [V],
         idx: usize,
     ) -> Result<(u16, u16), Fault>
-        ensures { Merges tables.old tables.new self.height self.node idx result }
+        ensures { Merges (tables heads.old keys.old values.old) (tables heads.new keys.new values.new) self.height self.node idx result }
     {
-        let pair = self.pair(&tables.as_tables(), idx)?;
+        let shown = Tables {
+            heads,
+            keys,
+            values,
+        };
+        let pair = self.pair(&shown, idx)?;
         if pair.left_len + pair.right_len + 1 > CAPACITY {
             return Err(Fault::Breach);
         }
-        pair.merge_row(tables.keys);
-        pair.merge_row(tables.values);
+        pair.merge_row(keys);
+        pair.merge_row(values);
         let count = self.child(pair.right).edge_count(pair.right_len);
         let first = pair.left_len + 1;
-        let from = tables.heads[pair.right as usize].edges;
-        let to = tables.heads[pair.left as usize].edges;
-        let below = with_edges_of(&from, 0, &to, first, count);
+        let below = move_edges(heads, pair.right, 0, pair.left, first, count);
         let own = without_edge(
-            &tables.heads[self.node as usize].edges,
+            &heads[self.node as usize].edges,
             idx + 1,
             pair.len - idx - 1,
         );
-        tables.heads[self.node as usize] = Head {
+        heads[self.node as usize] = Head {
             len: (pair.len - 1) as u16,
             edges: own,
-            ..tables.heads[self.node as usize]
+            ..heads[self.node as usize]
         };
-        tables.heads[pair.left as usize] = Head {
+        heads[pair.left as usize] = Head {
             len: (first + pair.right_len) as u16,
             edges: below,
-            ..tables.heads[pair.left as usize]
+            ..heads[pair.left as usize]
         };
-        correct_childrens_parent_links(tables.heads, self.node, idx + 1, pair.len)?;
-        correct_childrens_parent_links(tables.heads, pair.left, first, first + count)?;
+        correct_childrens_parent_links(heads, self.node, idx + 1, pair.len)?;
+        correct_childrens_parent_links(heads, pair.left, first, first + count)?;
         Ok((pair.left, pair.right))
     }
 
     /// Moves `count` entries from the left child beside the entry at `idx` to the right one, through that entry.
     pub fn bulk_steal_left<K: Copy, V: Copy>(
         self,
-        tables: &mut TablesMut<'_, K, V>,
+        heads: &mut [Head],
+        keys: &mut [K],
+        values: &mut [V],
         idx: usize,
         count: usize,
     ) -> Result<(), Fault>
-        ensures { StealsLeft tables.old tables.new self.height self.node idx count result }
+        ensures { StealsLeft (tables heads.old keys.old values.old) (tables heads.new keys.new values.new) self.height self.node idx count result }
     {
-        let pair = self.pair(&tables.as_tables(), idx)?;
+        let shown = Tables {
+            heads,
+            keys,
+            values,
+        };
+        let pair = self.pair(&shown, idx)?;
         check_count(count, pair.left_len, pair.right_len)?;
-        pair.steal_left_row(tables.keys, count - 1);
-        pair.steal_left_row(tables.values, count - 1);
+        pair.steal_left_row(keys, count - 1);
+        pair.steal_left_row(values, count - 1);
         let keep = pair.left_len - count;
         let moved = self.child(pair.left).edge_count(count - 1);
         let rest = self.child(pair.right).edge_count(pair.right_len);
-        let from = tables.heads[pair.left as usize].edges;
-        let to = tables.heads[pair.right as usize].edges;
-        let room = with_edges_of(&to, 0, &to, moved, rest);
-        let edges = with_edges_of(&from, keep + 1, &room, 0, moved);
-        tables.heads[pair.left as usize].len = keep as u16;
-        tables.heads[pair.right as usize] = Head {
+        let room = move_edges(heads, pair.right, 0, pair.right, moved, rest);
+        let edges = with_edges_of(&heads[pair.left as usize].edges, keep + 1, &room, 0, moved);
+        heads[pair.left as usize].len = keep as u16;
+        heads[pair.right as usize] = Head {
             len: (pair.right_len + count) as u16,
             edges,
-            ..tables.heads[pair.right as usize]
+            ..heads[pair.right as usize]
         };
-        correct_childrens_parent_links(tables.heads, pair.right, 0, moved + rest)
+        correct_childrens_parent_links(heads, pair.right, 0, moved + rest)
     }
 
     /// Moves `count` entries from the right child beside the entry at `idx` to the left one, through that entry.
     pub fn bulk_steal_right<K: Copy, V: Copy>(
         self,
-        tables: &mut TablesMut<'_, K, V>,
+        heads: &mut [Head],
+        keys: &mut [K],
+        values: &mut [V],
         idx: usize,
         count: usize,
     ) -> Result<(), Fault>
-        ensures { StealsRight tables.old tables.new self.height self.node idx count result }
+        ensures { StealsRight (tables heads.old keys.old values.old) (tables heads.new keys.new values.new) self.height self.node idx count result }
     {
-        let pair = self.pair(&tables.as_tables(), idx)?;
+        let shown = Tables {
+            heads,
+            keys,
+            values,
+        };
+        let pair = self.pair(&shown, idx)?;
         check_count(count, pair.right_len, pair.left_len)?;
-        pair.steal_right_row(tables.keys, count - 1);
-        pair.steal_right_row(tables.values, count - 1);
+        pair.steal_right_row(keys, count - 1);
+        pair.steal_right_row(values, count - 1);
         let keep = pair.right_len - count;
         let moved = self.child(pair.left).edge_count(count - 1);
         let rest = self.child(pair.right).edge_count(keep);
         let first = pair.left_len + 1;
-        let from = tables.heads[pair.right as usize].edges;
-        let to = tables.heads[pair.left as usize].edges;
-        let below = with_edges_of(&from, 0, &to, first, moved);
-        let edges = with_edges_of(&from, moved, &from, 0, rest);
-        tables.heads[pair.left as usize] = Head {
+        let below = move_edges(heads, pair.right, 0, pair.left, first, moved);
+        let edges = move_edges(heads, pair.right, moved, pair.right, 0, rest);
+        heads[pair.left as usize] = Head {
             len: (pair.left_len + count) as u16,
             edges: below,
-            ..tables.heads[pair.left as usize]
+            ..heads[pair.left as usize]
         };
-        tables.heads[pair.right as usize] = Head {
+        heads[pair.right as usize] = Head {
             len: keep as u16,
             edges,
-            ..tables.heads[pair.right as usize]
+            ..heads[pair.right as usize]
         };
-        correct_childrens_parent_links(tables.heads, pair.left, first, first + moved)?;
-        correct_childrens_parent_links(tables.heads, pair.right, 0, rest)
+        correct_childrens_parent_links(heads, pair.left, first, first + moved)?;
+        correct_childrens_parent_links(heads, pair.right, 0, rest)
     }
 }

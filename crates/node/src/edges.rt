@@ -2,8 +2,10 @@
 
 ghost use Rattle.std.specs.Prelude.{◌≡◌, ◌+◌, ◌<◌, ◌≤◌, ◌∷◌, length, slice_index, slice_set};
 ghost use Rattle.node.specs.Cells.{span, Put};
+ghost use Rattle.node.specs.Store.{head_in};
 
 use crate::cells::{slice_insert, slice_remove};
+use crate::head::Head;
 
 /// The edge at `index`.
 pub(crate) fn edge_at(edges: &[u16; 12], index: usize) -> u16
@@ -59,4 +61,28 @@ pub(crate) fn with_edges_of(
     let mut all = *to;
     all[dest..dest + count].copy_from_slice(&source[at..at + count]);
     all
+}
+
+/// The edges of `dest` with `count` edges of `source` from `source_offset` on in the place of its own from `dest_offset` on.
+pub(crate) fn move_edges(
+    heads: &[Head],
+    source: u16,
+    source_offset: usize,
+    dest: u16,
+    dest_offset: usize,
+    count: usize,
+) -> [u16; 12]
+    requires source_in { source < length heads.now }
+    requires dest_in { dest < length heads.now }
+    requires source { source_offset + count ≤ 12 }
+    requires target { dest_offset + count ≤ 12 }
+    ensures { Put (head_in heads.now dest).edges result dest_offset (span (head_in heads.now source).edges source_offset count) }
+{
+    with_edges_of(
+        &heads[source as usize].edges,
+        source_offset,
+        &heads[dest as usize].edges,
+        dest_offset,
+        count,
+    )
 }

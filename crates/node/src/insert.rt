@@ -2,7 +2,7 @@
 
 ghost use Rattle.std.specs.Prelude.{◌≡◌, ◌+◌, ◌-◌, ◌*◌, ◌<◌, ◌≤◌, ◌∷◌, length, MatchResult};
 ghost use Rattle.node.specs.Cells.{span, Put};
-ghost use Rattle.node.specs.Store.{Sized, head_at};
+ghost use Rattle.node.specs.Store.{tables, Sized, head_at};
 ghost use Rattle.node.specs.Operations.{Lies, InsertsFit, InsertsEdge};
 
 use crate::cells::slice_insert;
@@ -10,7 +10,7 @@ use crate::edges::with_edge;
 use crate::head::{CAPACITY, Head};
 use crate::links::correct_childrens_parent_links;
 use crate::nodes::{Internal, Leaf};
-use crate::tables::{Tables, TablesMut};
+use crate::tables::Tables;
 use supply::Fault;
 
 /// How many entries `node` has, where it has room for one at `idx`.
@@ -28,18 +28,25 @@ impl Leaf {
     /// Puts an entry at `idx` into a node that has room; its edges stay.
     pub fn insert_fit<K: Copy, V: Copy>(
         self,
-        tables: &mut TablesMut<'_, K, V>,
+        heads: &mut [Head],
+        keys: &mut [K],
+        values: &mut [V],
         idx: usize,
         key: K,
         val: V,
     ) -> Result<(), Fault>
-        ensures { InsertsFit tables.old tables.new self.node idx (key, val) result }
+        ensures { InsertsFit (tables heads.old keys.old values.old) (tables heads.new keys.new values.new) self.node idx (key, val) result }
     {
-        let len = room_in(&tables.as_tables(), self.node, idx)?;
+        let shown = Tables {
+            heads,
+            keys,
+            values,
+        };
+        let len = room_in(&shown, self.node, idx)?;
         let m = self.node as usize;
-        slice_insert(tables.keys, CAPACITY * m + idx, len - idx, key);
-        slice_insert(tables.values, CAPACITY * m + idx, len - idx, val);
-        tables.heads[m].len = (len + 1) as u16;
+        slice_insert(keys, CAPACITY * m + idx, len - idx, key);
+        slice_insert(values, CAPACITY * m + idx, len - idx, val);
+        heads[m].len = (len + 1) as u16;
         Ok(())
     }
 }
@@ -48,24 +55,31 @@ impl Internal {
     /// Puts an entry at `idx` into a node that has room, and an edge behind it.
     pub fn insert_fit<K: Copy, V: Copy>(
         self,
-        tables: &mut TablesMut<'_, K, V>,
+        heads: &mut [Head],
+        keys: &mut [K],
+        values: &mut [V],
         idx: usize,
         key: K,
         val: V,
         edge: u16,
     ) -> Result<(), Fault>
-        ensures { InsertsEdge tables.old tables.new self.node idx (key, val) edge result }
+        ensures { InsertsEdge (tables heads.old keys.old values.old) (tables heads.new keys.new values.new) self.node idx (key, val) edge result }
     {
-        let len = room_in(&tables.as_tables(), self.node, idx)?;
+        let shown = Tables {
+            heads,
+            keys,
+            values,
+        };
+        let len = room_in(&shown, self.node, idx)?;
         let m = self.node as usize;
-        slice_insert(tables.keys, CAPACITY * m + idx, len - idx, key);
-        slice_insert(tables.values, CAPACITY * m + idx, len - idx, val);
-        let edges = with_edge(&tables.heads[m].edges, idx + 1, len - idx, edge);
-        tables.heads[m] = Head {
+        slice_insert(keys, CAPACITY * m + idx, len - idx, key);
+        slice_insert(values, CAPACITY * m + idx, len - idx, val);
+        let edges = with_edge(&heads[m].edges, idx + 1, len - idx, edge);
+        heads[m] = Head {
             len: (len + 1) as u16,
             edges,
-            ..tables.heads[m]
+            ..heads[m]
         };
-        correct_childrens_parent_links(tables.heads, self.node, idx + 1, len + 2)
+        correct_childrens_parent_links(heads, self.node, idx + 1, len + 2)
     }
 }

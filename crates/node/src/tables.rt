@@ -8,7 +8,7 @@ use supply::Fault;
 /// The most nodes in the tables.
 pub const MOST: usize = 4096;
 
-/// The tables, to read.
+/// The tables, lent to be read.
 #[derive(Drop)]
 pub struct Tables<'a, K, V> {
     pub heads: &'a [Head],
@@ -38,36 +38,5 @@ impl<K, V> Tables<'_, K, V> {
             return Err(Fault::Breach);
         }
         len_at(self.heads, node)
-    }
-}
-
-/// The tables, to change.
-#[derive(Drop)]
-pub struct TablesMut<'a, K, V> {
-    pub heads: &'a mut [Head],
-    pub keys: &'a mut [K],
-    pub values: &'a mut [V],
-}
-
-impl<'a, K, V> Model for TablesMut<'a, K, V> {
-    ghost use Rattle.node.specs.Store.{Tables as Held, tables};
-
-    ghost Value = { Held K V };
-
-    ghost view = { λ t. tables t.heads.now t.keys.now t.values.now };
-}
-
-impl<K, V> TablesMut<'_, K, V> {
-    ghost use Rattle.std.specs.Prelude.{◌≡◌};
-
-    /// The same tables, to read.
-    pub fn as_tables(&self) -> Tables<'_, K, V>
-        ensures { result ≡ self.now }
-    {
-        Tables {
-            heads: self.heads,
-            keys: self.keys,
-            values: self.values,
-        }
     }
 }

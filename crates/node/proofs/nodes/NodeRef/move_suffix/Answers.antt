@@ -1,23 +1,23 @@
-use Rattle.std.proofs.Common.{◌<◌, [], ◌++◌, length, refl, sym, subst, arith, length-append}
-use Rattle.node.specs.Operations.{MovesSuffix, MovesTail, Fan, Lies, Strange}
+use Rattle.std.proofs.Common.{[], ◌++◌, length, refl, arith, length-append}
+use Rattle.node.specs.Store.{tables}
+use Rattle.node.specs.Operations.{MovesSuffix, MovesTail, Fan}
 use Rattle.node.proofs.Tabled.{not_strange}
 use Rattle.node.proofs.nodes.NodeRef.move_suffix.Goals as goal
 
 pub returns-in_err-len : goal.returns-in_err-len
 unfolding MovesSuffix
 returns-in_err-len g c = λ es fs ks ls cs sized node right p f1 l1 l2 f2 other kids.
-    absurd (not_strange c.args.tables.now _ _ _ sized node (subst (λ T. Strange T c.args.self.node) c.as_tables.ensures c.in_err-len.ensures))
+    absurd (not_strange (tables c.args.heads.now c.args.keys.now c.args.values.now) _ _ _ sized node c.in_err-len.ensures)
 
 pub returns-then-idx-len : goal.returns-then-idx-len
 unfolding MovesSuffix
 returns-then-idx-len g c = λ es fs ks ls cs sized node right p f1 l1 l2 f2 other kids.
-    let lies = subst (λ T. Lies T c.args.self.node c.in_ok-len.len) c.as_tables.ensures c.in_ok-len.ensures in
-    absurd (omega (arith, node.len_is, length-append es fs, lies.len_is))
+    absurd (omega (arith, node.len_is, length-append es fs, c.in_ok-len.ensures.len_is))
 
 pub returns-in_err-check_beside : goal.returns-in_err-check_beside
 unfolding MovesSuffix
 returns-in_err-check_beside g c = λ es fs ks ls cs sized node right p f1 l1 l2 f2 other kids.
-    absurd (c.in_err-check_beside.ensures (subst (λ (T : _). c.args.right < length T.heads) (sym c.tables.view_is) right.inside) other)
+    absurd (c.in_err-check_beside.ensures right.inside other)
 
 pub returns : goal.returns
 unfolding MovesSuffix MovesTail
