@@ -4,9 +4,9 @@ ghost use Rattle.std.specs.Prelude.{◌+◌, ◌≤◌};
 
 use map::insert::{insert_fit, insert_full, replace_value};
 use map::search::search_in;
-use node::head::CAPACITY;
+use node::head::{CAPACITY, Head};
 use node::nodes::{ForceResult, NodeRef};
-use node::tables::TablesMut;
+use node::tables::Tables;
 use order::keys::KeyOrder;
 use order::search::SearchResult;
 use supply::{Fault, Supply, spare};
@@ -29,6 +29,7 @@ pub(crate) struct Way {
 
 impl Way {
     ghost use Rattle.std.specs.Prelude.{◌≡◌, ◌+◌};
+    ghost use Rattle.node.specs.Store.{tables};
     ghost use Rattle.insertion.specs.Descent.{TookFor, Settles, Descends, above_child};
 
     /// How many nodes the ancestors of a child take if it is split, where this node has `len` entries.
@@ -54,22 +55,29 @@ impl Way {
     /// With fewer numbers left than this node and its ancestors take nothing is done.
     fn settle<K: Copy, V: Copy, S: Supply>(
         self,
-        tables: &mut TablesMut<'_, K, V>,
+        heads: &mut [Head],
+        keys: &mut [K],
+        values: &mut [V],
         supply: &mut S,
         idx: usize,
         key: K,
         val: V,
         edge: u16,
     ) -> Result<InsertResult<K, V>, Fault>
-        ensures { Settles tables.old tables.new (S.stock supply.old) (S.stock supply.new) self.node.height self.node.node idx (key, val) edge self.above result }
+        ensures { Settles (tables heads.old keys.old values.old) (tables heads.new keys.new values.new) (S.stock supply.old) (S.stock supply.new) self.node.height self.node.node idx (key, val) edge self.above result }
     {
-        let len = tables.as_tables().len_in(self.node.node)?;
+        let shown = Tables {
+            heads,
+            keys,
+            values,
+        };
+        let len = shown.len_in(self.node.node)?;
         if len < CAPACITY {
-            insert_fit(tables, self.node, idx, key, val, edge)?;
+            insert_fit(heads, keys, values, self.node, idx, key, val, edge)?;
             return Ok(InsertResult::Fit);
         }
         let right = self.take(supply)?;
-        let (k, v) = insert_full(tables, self.node, idx, key, val, edge, right)?;
+        let (k, v) = insert_full(heads, keys, values, self.node, idx, key, val, edge, right)?;
         Ok(InsertResult::Split(k, v, right))
     }
 
@@ -77,33 +85,40 @@ impl Way {
     /// belongs, and nodes that are full are split on the way back.
     pub(crate) fn insert_under<K: KeyOrder, V: Copy, S: Supply>(
         self,
-        tables: &mut TablesMut<'_, K, V>,
+        heads: &mut [Head],
+        keys: &mut [K],
+        values: &mut [V],
         supply: &mut S,
         key: K,
         val: V,
     ) -> Result<InsertResult<K, V>, Fault>
-        ensures { Descends (K.KeyOrder.compares key) tables.old tables.new (S.stock supply.old) (S.stock supply.new) self.node.height self.node.node (key, val) self.above result }
+        ensures { Descends (K.KeyOrder.compares key) (tables heads.old keys.old values.old) (tables heads.new keys.new values.new) (S.stock supply.old) (S.stock supply.new) self.node.height self.node.node (key, val) self.above result }
     {
-        let (found, _) = search_in(&tables.as_tables(), self.node.node, &key)?;
+        let shown = Tables {
+            heads,
+            keys,
+            values,
+        };
+        let (found, _) = search_in(&shown, self.node.node, &key)?;
         match found {
             SearchResult::Found(idx) => {
-                let old = replace_value(tables, self.node.node, idx, val)?;
+                let old = replace_value(heads, keys, values, self.node.node, idx, val)?;
                 Ok(InsertResult::Replaced(old))
             }
             SearchResult::GoDown(idx) => match self.node.force() {
-                ForceResult::Leaf(_) => self.settle(tables, supply, idx, key, val, 0),
+                ForceResult::Leaf(_) => self.settle(heads, keys, values, supply, idx, key, val, 0),
                 ForceResult::Internal(inner) => {
-                    let head = tables.heads[inner.node as usize];
+                    let head = heads[inner.node as usize];
                     let child = inner.child(head.edges[idx]);
                     let way = Way {
                         node: child,
                         above: self.above_child(head.len),
                     };
-                    let below = way.insert_under(tables, supply, key, val)?;
+                    let below = way.insert_under(heads, keys, values, supply, key, val)?;
                     let InsertResult::Split(k, v, right) = below else {
                         return Ok(below);
                     };
-                    self.settle(tables, supply, idx, k, v, right)
+                    self.settle(heads, keys, values, supply, idx, k, v, right)
                 }
             },
         }

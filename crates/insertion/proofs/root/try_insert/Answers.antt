@@ -1,4 +1,5 @@
 use Rattle.std.proofs.Common.{Ok, ap, refl, arith}
+use Rattle.node.specs.Store.{tables}
 use Rattle.std.proofs.lemmas.Result.{err_from_is_err_and}
 use Rattle.insertion.specs.Descent.{Descends}
 use Rattle.insertion.specs.Roots.{Enters}
@@ -30,10 +31,10 @@ unfolding Enters Descends
 returns-in_err-top-in-Split g c t owns root m low =
     let p = err_from_is_err_and c.from_residual-in_err-top-in-Split.result c.from_residual-in_err-top-in-Split.ensures.1 in
     rw (p.1, p.2) (entered_never _ _ _ _ _ c.args.root (c.args.key, c.args.val) t owns m root _ (c.in_ok-done.ensures t owns m)
-    c.grow_root.new.tables _ c.in-Split.k c.in-Split.v c.in-Split.right (ap Ok c.in-Split.is) _ c.in_err-top-in-Split.ensures _ refl)
+    (tables c.grow_root.new.heads c.grow_root.new.keys c.grow_root.new.values) _ c.in-Split.k c.in-Split.v c.in-Split.right (ap Ok c.in-Split.is) _ c.in_err-top-in-Split.ensures _ refl)
 
 pub returns-in_ok-top-in-Split : goal.returns-in_ok-top-in-Split
 unfolding Enters Descends
 returns-in_ok-top-in-Split g c t owns root m low =
     entered_split _ _ _ _ _ c.args.root (c.args.key, c.args.val) t owns m root _ (c.in_ok-done.ensures t owns m)
-    c.grow_root.new.tables _ c.in-Split.k c.in-Split.v c.in-Split.right (ap Ok c.in-Split.is) _ c.in_ok-top-in-Split.ensures c.in_ok-top-in-Split.top refl
+    (tables c.grow_root.new.heads c.grow_root.new.keys c.grow_root.new.values) _ c.in-Split.k c.in-Split.v c.in-Split.right (ap Ok c.in-Split.is) _ c.in_ok-top-in-Split.ensures c.in_ok-top-in-Split.top refl

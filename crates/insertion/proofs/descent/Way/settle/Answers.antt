@@ -12,19 +12,19 @@ use Rattle.insertion.proofs.descent.Way.settle.Goals as goal
 pub returns-in_err-len : goal.returns-in_err-len
 unfolding Settles
 returns-in_err-len g c es ks new sized fits w others low comes owned =
-    absurd (held_not_strange _ c.args.self.node.height c.args.self.node.node (mk c.args.self.node.node es (seated c.args.idx new ks)) sized w refl (subst (λ T. Strange T c.args.self.node.node) c.as_tables.ensures c.in_err-len.ensures))
+    absurd (held_not_strange _ c.args.self.node.height c.args.self.node.node (mk c.args.self.node.node es (seated c.args.idx new ks)) sized w refl (c.in_err-len.ensures))
 
 pub returns-in_err-insert_fit : goal.returns-in_err-insert_fit
 unfolding Settles
 returns-in_err-insert_fit g c es ks new sized fits w others low comes owned =
-    let n = held_long _ c.args.self.node.height c.args.self.node.node es (seated c.args.idx new ks) c.as_tables.ensures c.in_ok-len.ensures w in
+    let n = held_long _ c.args.self.node.height c.args.self.node.node es (seated c.args.idx new ks) refl c.in_ok-len.ensures w in
     absurd (err_not_ok _ _ (settled_fit _ _ (g.S.Supply.stock c.args.supply.now) c.args.self.node.height c.args.self.node.node c.args.idx (c.args.key, c.args.val) c.args.edge es ks new sized fits w others low comes owned
     0 _ (omega (arith, c.if-len-lt-CAPACITY.true, n)) c.in_err-insert_fit.ensures).0)
 
 pub returns-then-len-lt-CAPACITY : goal.returns-then-len-lt-CAPACITY
 unfolding Settles
 returns-then-len-lt-CAPACITY g c es ks new sized fits w others low comes owned =
-    let n = held_long _ c.args.self.node.height c.args.self.node.node es (seated c.args.idx new ks) c.as_tables.ensures c.in_ok-len.ensures w in
+    let n = held_long _ c.args.self.node.height c.args.self.node.node es (seated c.args.idx new ks) refl c.in_ok-len.ensures w in
     let l : length es < 11 = omega (arith, c.if-len-lt-CAPACITY.true, n) in
     record {
       fits = λ _ fresh. (settled_fit _ _ (g.S.Supply.stock c.args.supply.now) c.args.self.node.height c.args.self.node.node c.args.idx (c.args.key, c.args.val) c.args.edge es ks new sized fits w others low comes owned
@@ -36,7 +36,7 @@ returns-then-len-lt-CAPACITY g c es ks new sized fits w others low comes owned =
 pub returns-in_err-right : goal.returns-in_err-right
 unfolding Settles
 returns-in_err-right g c es ks new sized fits w others low comes owned =
-    let n = held_long _ c.args.self.node.height c.args.self.node.node es (seated c.args.idx new ks) c.as_tables.ensures c.in_ok-len.ensures w in
+    let n = held_long _ c.args.self.node.height c.args.self.node.node es (seated c.args.idx new ks) refl c.in_ok-len.ensures w in
     let l : 11 ≤ length es = omega (arith, c.if-len-lt-CAPACITY.false, n) in
     let d = c.in_err-right.ensures in
     let p = err_from_is_err_and c.from_residual-in_err-right.result c.from_residual-in_err-right.ensures.1 in
@@ -49,7 +49,7 @@ returns-in_err-right g c es ks new sized fits w others low comes owned =
 pub returns-in_err-k : goal.returns-in_err-k
 unfolding Settles
 returns-in_err-k g c es ks new sized fits w others low comes owned =
-    let n = held_long _ c.args.self.node.height c.args.self.node.node es (seated c.args.idx new ks) c.as_tables.ensures c.in_ok-len.ensures w in
+    let n = held_long _ c.args.self.node.height c.args.self.node.node es (seated c.args.idx new ks) refl c.in_ok-len.ensures w in
     let l : 11 ≤ length es = omega (arith, c.if-len-lt-CAPACITY.false, n) in
     absurd (err_not_ok _ _ (settled_full _ _ (g.S.Supply.stock c.args.supply.now) c.args.self.node.height c.args.self.node.node c.args.idx (c.args.key, c.args.val) c.args.edge es ks new sized fits w others low comes owned
     (g.S.Supply.stock c.take.new.supply) c.in_ok-right.right _ l c.in_ok-right.ensures.0 c.in_err-k.ensures.left c.in_err-k.ensures.right).0)
@@ -57,7 +57,7 @@ returns-in_err-k g c es ks new sized fits w others low comes owned =
 pub returns : goal.returns
 unfolding Settles
 returns g c es ks new sized fits w others low comes owned =
-    let n = held_long _ c.args.self.node.height c.args.self.node.node es (seated c.args.idx new ks) c.as_tables.ensures c.in_ok-len.ensures w in
+    let n = held_long _ c.args.self.node.height c.args.self.node.node es (seated c.args.idx new ks) refl c.in_ok-len.ensures w in
     let l : 11 ≤ length es = omega (arith, c.if-len-lt-CAPACITY.false, n) in
     let d = settled_full _ _ (g.S.Supply.stock c.args.supply.now) c.args.self.node.height c.args.self.node.node c.args.idx (c.args.key, c.args.val) c.args.edge es ks new sized fits w others low comes owned
     (g.S.Supply.stock c.take.new.supply) c.in_ok-right.right _ l c.in_ok-right.ensures.0 c.in_ok-k.ensures.left c.in_ok-k.ensures.right in
