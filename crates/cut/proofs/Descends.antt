@@ -10,6 +10,7 @@ use Rattle.std.proofs.lemmas.Bool.{cases_eq}
 use Rattle.supply.specs.declared.faults.Fault.{Fault}
 use Rattle.supply.specs.Stocks.{Stock}
 use Rattle.order.specs.Found.{first_not_below, comparisons}
+use Rattle.node.specs.declared.head.Head.{Head}
 use Rattle.node.specs.declared.nodes.NodeRef.{NodeRef}
 use Rattle.node.specs.Cells.{span}
 use Rattle.node.specs.Links.{edge}
@@ -342,9 +343,9 @@ module _ {K V : Type 0} (T : Tables K V) (S : Stock) (fresh : ℕ → ℕ) (h : 
 
 -- ---- for the code
 
--- an edge is read in the same tables, of the same node
-pub no_edge : {K V : Type 0} {T U : Tables K V} → U ≡ T → (k l j : ℕ) → k ≡ l → l < length T.heads → j < 12 → (k < length U.heads → j < 12 → ⊥) → ⊥
-no_edge {T = T} same k l j e inside few refused = subst (λ (t : Tables _ _). k < length t.heads → j < 12 → ⊥) same refused (subst (λ c. c < length T.heads) (sym e) inside) few
+-- an edge of a node in the table is read
+pub no_edge : (H : List Head) (k l j : ℕ) → k ≡ l → l < length H → j < 12 → (k < length H → j < 12 → ⊥) → ⊥
+no_edge H k l j e inside few refused = refused (omega (arith, e)) few
 
 -- what a caller of the cut gives
 pub record Ready {K V : Type 0} (T : Tables K V) (S : Stock) (h m n : ℕ) (t : Tree (K × V)) (fresh : ℕ → ℕ) : Type 0 where

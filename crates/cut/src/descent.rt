@@ -2,11 +2,13 @@
 
 ghost use Rattle.std.specs.Prelude.{◌+◌, ◌*◌, ◌≤◌, IfOk, MatchResult};
 ghost use Rattle.node.specs.Operations.{Strange};
+ghost use Rattle.node.specs.Store.{tables};
 ghost use Rattle.cut.specs.Descent.{Stops, Cuts};
 
 use map::search::search_in;
+use node::head::Head;
 use node::nodes::{ForceResult, NodeRef};
-use node::tables::{Tables, TablesMut};
+use node::tables::Tables;
 use order::keys::{KeyOrder, Placing, Query};
 use order::search::SearchResult;
 use repair::joint::edge_of;
@@ -29,22 +31,28 @@ fn stop_in<K: KeyOrder, V, Q: Query<K>>(
 
 /// Moves what is not below the query from the tree under `node` to the spine under `right`, and answers the comparisons made.
 pub(crate) fn cut_under<K: KeyOrder, V: Copy, Q: Query<K>>(
-    tables: &mut TablesMut<'_, K, V>,
+    heads: &mut [Head],
+    keys: &mut [K],
+    values: &mut [V],
     node: NodeRef,
     right: u16,
     query: &Q,
 ) -> Result<usize, Fault>
     ensures bound { IfOk result (λ n. n ≤ 11 * (node.height + 1)) }
-    ensures cuts { Cuts (Q.Placing.places query.now) tables.old tables.new node.height node.node right result }
+    ensures cuts { Cuts (Q.Placing.places query.now) (tables heads.old keys.old values.old) (tables heads.new keys.new values.new) node.height node.node right result }
 {
-    let (idx, count) = stop_in(&tables.as_tables(), node.node, query)?;
-    node.move_suffix(tables, idx, right)?;
+    let shown = Tables {
+        heads,
+        keys,
+        values,
+    };
+    let (idx, count) = stop_in(&shown, node.node, query)?;
+    node.move_suffix(heads, keys, values, idx, right)?;
     let ForceResult::Internal(inner) = node.force() else {
         return Ok(count);
     };
-    let parted = tables.as_tables();
-    let child = edge_of(parted.heads, inner.node, idx)?;
-    let beside = edge_of(parted.heads, right, 0)?;
-    let below = cut_under(tables, inner.child(child), beside, query)?;
+    let child = edge_of(heads, inner.node, idx)?;
+    let beside = edge_of(heads, right, 0)?;
+    let below = cut_under(heads, keys, values, inner.child(child), beside, query)?;
     Ok(count + below)
 }

@@ -1,6 +1,7 @@
 //! A tree cut in two at a query: what is below it stays, and the rest becomes a tree of its own.
 
 ghost use Rattle.std.specs.Prelude.{◌≡◌, ◌+◌, ◌<◌, MatchResult};
+ghost use Rattle.node.specs.Store.{tables};
 ghost use Rattle.cut.specs.Split.{CountsBoth, Halves, SplitsOff};
 
 use crate::descent::cut_under;
@@ -8,7 +9,6 @@ use crate::spine::take_spine;
 use node::count::{MAX_HEIGHT, recalc_length};
 use node::head::Head;
 use node::nodes::NodeRef;
-use node::tables::TablesMut;
 use order::keys::{KeyOrder, Placing, Query};
 use repair::border::{fix_left_border, fix_right_border};
 use supply::{Fault, Supply, spare};
@@ -52,38 +52,42 @@ fn count_both(
 
 /// Cuts a tree in two, and repairs both borders. Answers both roots and the comparisons made.
 fn halve<K: KeyOrder, V: Copy, Q: Query<K>, S: Supply>(
-    tables: &mut TablesMut<'_, K, V>,
+    heads: &mut [Head],
+    keys: &mut [K],
+    values: &mut [V],
     supply: &mut S,
     root: NodeRef,
     query: &Q,
 ) -> Result<(NodeRef, NodeRef, usize), Fault>
-    ensures { Halves (Q.Placing.places query.now) tables.old tables.new (S.stock supply.old) (S.stock supply.new) root.height root.node result }
+    ensures { Halves (Q.Placing.places query.now) (tables heads.old keys.old values.old) (tables heads.new keys.new values.new) (S.stock supply.old) (S.stock supply.new) root.height root.node result }
 {
     if root.height > MAX_HEIGHT {
         return Err(Fault::Breach);
     }
     spare(supply, root.height + 1)?;
-    let top = take_spine::<K, V, S>(tables.heads, supply, root.height)?;
-    let made = cut_under(tables, root, top, query)?;
-    let left = fix_right_border(tables, supply, root)?;
+    let top = take_spine::<K, V, S>(heads, supply, root.height)?;
+    let made = cut_under(heads, keys, values, root, top, query)?;
+    let left = fix_right_border(heads, keys, values, supply, root)?;
     let other = NodeRef {
         node: top,
         height: root.height,
     };
-    let right = fix_left_border(tables, supply, other)?;
+    let right = fix_left_border(heads, keys, values, supply, other)?;
     Ok((left, right, made))
 }
 
 /// Cuts a tree of `count` entries in two: those below the query stay under `root`, the others go to a new tree. With fewer numbers left
 /// than one for each level nothing is done.
 pub fn split_off<K: KeyOrder, V: Copy, Q: Query<K>, S: Supply>(
-    tables: &mut TablesMut<'_, K, V>,
+    heads: &mut [Head],
+    keys: &mut [K],
+    values: &mut [V],
     supply: &mut S,
     root: NodeRef,
     count: usize,
     query: &Q,
 ) -> Result<Cut, Fault>
-    ensures { SplitsOff (Q.Placing.places query.now) tables.old tables.new (S.stock supply.old) (S.stock supply.new) root.height root.node count result }
+    ensures { SplitsOff (Q.Placing.places query.now) (tables heads.old keys.old values.old) (tables heads.new keys.new values.new) (S.stock supply.old) (S.stock supply.new) root.height root.node count result }
 {
     if count == 0 {
         return Ok(Cut {
@@ -91,8 +95,8 @@ pub fn split_off<K: KeyOrder, V: Copy, Q: Query<K>, S: Supply>(
             counts: (0, 0, 0),
         });
     }
-    let (left, right, made) = halve(tables, supply, root, query)?;
-    let (before, after) = count_both(tables.as_tables().heads, left, right, count)?;
+    let (left, right, made) = halve(heads, keys, values, supply, root, query)?;
+    let (before, after) = count_both(heads, left, right, count)?;
     Ok(Cut {
         parts: Some((left, right)),
         counts: (before, after, made),

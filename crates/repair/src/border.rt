@@ -2,14 +2,16 @@
 
 ghost use Rattle.std.specs.Prelude.{◌≡◌, ◌<◌};
 ghost use Rattle.node.specs.declared.ends.Side.TheVariants.{First, Last};
+ghost use Rattle.node.specs.Store.{tables};
 ghost use Rattle.parts.specs.Rules.{beside};
 ghost use Rattle.repair.specs.Repair.{Mends, Repairs};
 
 use crate::joint::Joint;
 use crate::top::fix_top;
 use node::ends::Side;
+use node::head::Head;
 use node::nodes::{ForceResult, NodeRef};
-use node::tables::TablesMut;
+use node::tables::Tables;
 use supply::{Fault, Supply};
 
 /// The index of the entry beside the border child, in a node of `len` entries.
@@ -25,57 +27,70 @@ fn border_entry(side: Side, len: usize) -> usize
 
 /// Mends the border under `node`: the border child is merged with its neighbour or raised to six entries, and so on in the border child.
 fn mend<K: Copy, V: Copy, S: Supply>(
-    tables: &mut TablesMut<'_, K, V>,
+    heads: &mut [Head],
+    keys: &mut [K],
+    values: &mut [V],
     supply: &mut S,
     side: Side,
     node: NodeRef,
 ) -> Result<(), Fault>
-    ensures { Mends side tables.old tables.new (S.stock supply.old) (S.stock supply.new) node.height node.node result }
+    ensures { Mends side (tables heads.old keys.old values.old) (tables heads.new keys.new values.new) (S.stock supply.old) (S.stock supply.new) node.height node.node result }
 {
     let ForceResult::Internal(parent) = node.force() else {
         return Ok(());
     };
-    let len = tables.as_tables().len_in(parent.node)?;
+    let shown = Tables {
+        heads,
+        keys,
+        values,
+    };
+    let len = shown.len_in(parent.node)?;
     if len == 0 {
         return Ok(());
     }
     let idx = border_entry(side, len);
-    let child = Joint { parent, idx, side }.join(tables, supply)?;
-    mend(tables, supply, side, parent.child(child))
+    let child = Joint { parent, idx, side }.join(heads, keys, values, supply)?;
+    mend(heads, keys, values, supply, side, parent.child(child))
 }
 
 /// Takes roots without entries off, mends the border at `side`, and takes roots without entries off again.
 fn fix_border<K: Copy, V: Copy, S: Supply>(
-    tables: &mut TablesMut<'_, K, V>,
+    heads: &mut [Head],
+    keys: &mut [K],
+    values: &mut [V],
     supply: &mut S,
     side: Side,
     root: NodeRef,
 ) -> Result<NodeRef, Fault>
-    ensures { Repairs side tables.old tables.new (S.stock supply.old) (S.stock supply.new) root.height root.node result }
+    ensures { Repairs side (tables heads.old keys.old values.old) (tables heads.new keys.new values.new) (S.stock supply.old) (S.stock supply.new) root.height root.node result }
 {
-    let top = fix_top::<K, V, S>(tables.heads, supply, root)?;
-    mend(tables, supply, side, top)?;
-    fix_top::<K, V, S>(tables.heads, supply, top)
+    let top = fix_top::<K, V, S>(heads, supply, root)?;
+    mend(heads, keys, values, supply, side, top)?;
+    fix_top::<K, V, S>(heads, supply, top)
 }
 
 /// Repairs the right border of a tree whose right part was cut off, and answers its root.
 pub fn fix_right_border<K: Copy, V: Copy, S: Supply>(
-    tables: &mut TablesMut<'_, K, V>,
+    heads: &mut [Head],
+    keys: &mut [K],
+    values: &mut [V],
     supply: &mut S,
     root: NodeRef,
 ) -> Result<NodeRef, Fault>
-    ensures { Repairs Last tables.old tables.new (S.stock supply.old) (S.stock supply.new) root.height root.node result }
+    ensures { Repairs Last (tables heads.old keys.old values.old) (tables heads.new keys.new values.new) (S.stock supply.old) (S.stock supply.new) root.height root.node result }
 {
-    fix_border(tables, supply, Side::Last, root)
+    fix_border(heads, keys, values, supply, Side::Last, root)
 }
 
 /// Repairs the left border of a tree whose left part was cut off, and answers its root.
 pub fn fix_left_border<K: Copy, V: Copy, S: Supply>(
-    tables: &mut TablesMut<'_, K, V>,
+    heads: &mut [Head],
+    keys: &mut [K],
+    values: &mut [V],
     supply: &mut S,
     root: NodeRef,
 ) -> Result<NodeRef, Fault>
-    ensures { Repairs First tables.old tables.new (S.stock supply.old) (S.stock supply.new) root.height root.node result }
+    ensures { Repairs First (tables heads.old keys.old values.old) (tables heads.new keys.new values.new) (S.stock supply.old) (S.stock supply.new) root.height root.node result }
 {
-    fix_border(tables, supply, Side::First, root)
+    fix_border(heads, keys, values, supply, Side::First, root)
 }

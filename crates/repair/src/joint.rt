@@ -6,7 +6,7 @@ ghost use Rattle.node.specs.Links.{edge};
 use node::ends::Side;
 use node::head::{B, CAPACITY, Head};
 use node::nodes::Internal;
-use node::tables::TablesMut;
+use node::tables::Tables;
 use supply::{Fault, Supply};
 
 /// The edge of `node` at `idx`.
@@ -31,6 +31,7 @@ pub(crate) struct Joint {
 
 impl Joint {
     ghost use Rattle.std.specs.Prelude.{◌≡◌};
+    ghost use Rattle.node.specs.Store.{tables};
     ghost use Rattle.repair.specs.Joint.{border_edge, Raises, Joins};
 
     /// The index of the edge to the border child.
@@ -44,17 +45,26 @@ impl Joint {
     }
 
     /// Raises the border child to six entries, where it has fewer, and answers it.
-    fn raise<K: Copy, V: Copy>(self, tables: &mut TablesMut<'_, K, V>) -> Result<u16, Fault>
-        ensures { Raises self.side tables.old tables.new self.parent.height self.parent.node self.idx result }
+    fn raise<K: Copy, V: Copy>(
+        self,
+        heads: &mut [Head],
+        keys: &mut [K],
+        values: &mut [V],
+    ) -> Result<u16, Fault>
+        ensures { Raises self.side (tables heads.old keys.old values.old) (tables heads.new keys.new values.new) self.parent.height self.parent.node self.idx result }
     {
-        let shown = tables.as_tables();
-        let child = edge_of(shown.heads, self.parent.node, self.border_edge())?;
+        let shown = Tables {
+            heads,
+            keys,
+            values,
+        };
+        let child = edge_of(heads, self.parent.node, self.border_edge())?;
         let len = shown.len_in(child)?;
         if len < B {
             let Joint { parent, idx, .. } = self;
             match self.side {
-                Side::First => parent.bulk_steal_right(tables, idx, B - len)?,
-                Side::Last => parent.bulk_steal_left(tables, idx, B - len)?,
+                Side::First => parent.bulk_steal_right(heads, keys, values, idx, B - len)?,
+                Side::Last => parent.bulk_steal_left(heads, keys, values, idx, B - len)?,
             }
         }
         Ok(child)
@@ -64,17 +74,24 @@ impl Joint {
     /// Answers the border child.
     pub(crate) fn join<K: Copy, V: Copy, S: Supply>(
         self,
-        tables: &mut TablesMut<'_, K, V>,
+        heads: &mut [Head],
+        keys: &mut [K],
+        values: &mut [V],
         supply: &mut S,
     ) -> Result<u16, Fault>
-        ensures { Joins self.side tables.old tables.new (S.stock supply.old) (S.stock supply.new) self.parent.height self.parent.node self.idx result }
+        ensures { Joins self.side (tables heads.old keys.old values.old) (tables heads.new keys.new values.new) (S.stock supply.old) (S.stock supply.new) self.parent.height self.parent.node self.idx result }
     {
-        let fits = self.parent.can_merge(&tables.as_tables(), self.idx)?;
+        let shown = Tables {
+            heads,
+            keys,
+            values,
+        };
+        let fits = self.parent.can_merge(&shown, self.idx)?;
         if fits {
-            let (left, right) = self.parent.merge(tables, self.idx)?;
+            let (left, right) = self.parent.merge(heads, keys, values, self.idx)?;
             supply.give_back(right)?;
             return Ok(left);
         }
-        self.raise(tables)
+        self.raise(heads, keys, values)
     }
 }

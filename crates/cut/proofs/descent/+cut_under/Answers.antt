@@ -1,4 +1,5 @@
-use Rattle.std.proofs.Common.{◌-◌, ◌∙◌, refl, ap, subst, arith}
+use Rattle.std.proofs.Common.{◌≡◌, ◌-◌, ◌∙◌, refl, ap, subst, arith}
+use Rattle.node.specs.Store.{Tables, tables}
 use Rattle.node.specs.Operations.{Strange}
 use Rattle.node.proofs.Forced.{forced_leaf, forced_inner}
 use Rattle.node.proofs.Tabled.{err_not_ok}
@@ -10,50 +11,50 @@ use Rattle.cut.proofs.descent.+cut_under.Goals as goal
 pub returns-in_err-idx-clause-cuts : goal.returns-in_err-idx-clause-cuts
 unfolding Cuts
 returns-in_err-idx-clause-cuts g _ c = λ S t fresh s w z em en a.
-    absurd (held_not_strange c.args.tables.now c.args.node.height c.args.node.node t s w em (subst (λ T. Strange T c.args.node.node) c.as_tables.ensures c.in_err-idx.ensures))
+    absurd (held_not_strange (tables c.args.heads.now c.args.keys.now c.args.values.now) c.args.node.height c.args.node.node t s w em (c.in_err-idx.ensures))
 
 pub returns-in_err-move_suffix-clause-cuts : goal.returns-in_err-move_suffix-clause-cuts
 unfolding Cuts
 returns-in_err-move_suffix-clause-cuts g _ c = λ S t fresh s w z em en a.
     let place = g.Q.Placing.places c.args.query.now in
     let n = c.args.node in
-    let v = subst (λ T. Stops place T n.node c.in_ok-idx.idx c.in_ok-idx.count) c.as_tables.ensures c.in_ok-idx.ensures in
-    absurd (err_not_ok _ _ (moves place c.args.tables.now c.move_suffix.new.tables n.node c.in_ok-idx.idx c.in_ok-idx.count c.args.right v _ n.height
+    let v = c.in_ok-idx.ensures in
+    absurd (err_not_ok _ _ (moves place (tables c.args.heads.now c.args.keys.now c.args.values.now) (tables c.move_suffix.new.heads c.move_suffix.new.keys c.move_suffix.new.values) n.node c.in_ok-idx.idx c.in_ok-idx.count c.args.right v _ n.height
     c.in_err-move_suffix.ensures S t fresh (record { sized = s; left = w; right = z; at_left = em; at_right = en; apart = a })).0)
 
 pub returns-in_default-clause-cuts : goal.returns-in_default-clause-cuts
 returns-in_default-clause-cuts g _ c =
     let place = g.Q.Placing.places c.args.query.now in
     let n = c.args.node in
-    let v = subst (λ T. Stops place T n.node c.in_ok-idx.idx c.in_ok-idx.count) c.as_tables.ensures c.in_ok-idx.ensures in
-    cut_leaf place c.args.tables.now c.move_suffix.new.tables n.node c.in_ok-idx.idx c.in_ok-idx.count c.args.right v _ n.height
+    let v = c.in_ok-idx.ensures in
+    cut_leaf place (tables c.args.heads.now c.args.keys.now c.args.values.now) (tables c.move_suffix.new.heads c.move_suffix.new.keys c.move_suffix.new.values) n.node c.in_ok-idx.idx c.in_ok-idx.count c.args.right v _ n.height
     (forced_leaf n c.in_default.field-0 c.in_default.ensures).0 c.in_ok-move_suffix.ensures
 
 pub returns-in_err-child-clause-cuts : goal.returns-in_err-child-clause-cuts
 unfolding Cuts
 returns-in_err-child-clause-cuts g _ c = λ S t fresh s w z em en a.
     let place = g.Q.Placing.places c.args.query.now in
-    let T = c.args.tables.now in
-    let T₁ = c.move_suffix.new.tables in
+    let T = (tables c.args.heads.now c.args.keys.now c.args.values.now) in
+    let T₁ = (tables c.move_suffix.new.heads c.move_suffix.new.keys c.move_suffix.new.values) in
     let n = c.args.node in
-    let v = subst (λ T. Stops place T n.node c.in_ok-idx.idx c.in_ok-idx.count) c.as_tables.ensures c.in_ok-idx.ensures in
+    let v = c.in_ok-idx.ensures in
     let k = forced_inner n c.in-Internal.inner c.in-Internal.ensures in
     let d = moves place T T₁ n.node c.in_ok-idx.idx c.in_ok-idx.count c.args.right v _ n.height
     c.in_ok-move_suffix.ensures S t fresh (record { sized = s; left = w; right = z; at_left = em; at_right = en; apart = a }) in
-    absurd (no_edge (c.parted.view_is ∙ c.as_tables-parted.ensures)
+    absurd (no_edge c.move_suffix.new.heads
     c.in-Internal.inner.node n.node c.in_ok-idx.idx k.1 d.2 (omega (arith, v.few)) c.in_err-child.ensures)
 
 pub returns-in_err-beside-clause-cuts : goal.returns-in_err-beside-clause-cuts
 unfolding Cuts
 returns-in_err-beside-clause-cuts g _ c = λ S t fresh s w z em en a.
     let place = g.Q.Placing.places c.args.query.now in
-    let T = c.args.tables.now in
-    let T₁ = c.move_suffix.new.tables in
+    let T = (tables c.args.heads.now c.args.keys.now c.args.values.now) in
+    let T₁ = (tables c.move_suffix.new.heads c.move_suffix.new.keys c.move_suffix.new.values) in
     let n = c.args.node in
-    let v = subst (λ T. Stops place T n.node c.in_ok-idx.idx c.in_ok-idx.count) c.as_tables.ensures c.in_ok-idx.ensures in
+    let v = c.in_ok-idx.ensures in
     let d = moves place T T₁ n.node c.in_ok-idx.idx c.in_ok-idx.count c.args.right v _ n.height
     c.in_ok-move_suffix.ensures S t fresh (record { sized = s; left = w; right = z; at_left = em; at_right = en; apart = a }) in
-    absurd (no_edge (c.parted.view_is ∙ c.as_tables-parted.ensures)
+    absurd (no_edge c.move_suffix.new.heads
     c.args.right c.args.right 0 refl d.1 (omega arith) c.in_err-beside.ensures)
 
 pub returns-in_err-below-clause-cuts : goal.returns-in_err-below-clause-cuts
@@ -61,10 +62,11 @@ unfolding Cuts
 returns-in_err-below-clause-cuts g _ c = λ S t fresh s w z em en a.
     let place = g.Q.Placing.places c.args.query.now in
     let n = c.args.node in
-    let v = subst (λ T. Stops place T n.node c.in_ok-idx.idx c.in_ok-idx.count) c.as_tables.ensures c.in_ok-idx.ensures in
+    let v = c.in_ok-idx.ensures in
     let k = forced_inner n c.in-Internal.inner c.in-Internal.ensures in
-    absurd (not_refused place c.args.tables.now c.move_suffix.new.tables n.node c.in_ok-idx.idx c.in_ok-idx.count c.args.right v _
-    (c.parted.view_is ∙ c.as_tables-parted.ensures) c.cut_under.new.tables c.in-Internal.inner.node c.in_ok-child.child c.in_ok-beside.beside k.1 c.in_ok-child.ensures c.in_ok-beside.ensures
+    let same : ◌≡◌ {A = Tables _ _} (tables c.move_suffix.new.heads c.move_suffix.new.keys c.move_suffix.new.values) (tables c.move_suffix.new.heads c.move_suffix.new.keys c.move_suffix.new.values) = refl in
+    absurd (not_refused place (tables c.args.heads.now c.args.keys.now c.args.values.now) (tables c.move_suffix.new.heads c.move_suffix.new.keys c.move_suffix.new.values) n.node c.in_ok-idx.idx c.in_ok-idx.count c.args.right v _
+    same (tables c.cut_under.new.heads c.cut_under.new.keys c.cut_under.new.values) c.in-Internal.inner.node c.in_ok-child.child c.in_ok-beside.beside k.1 c.in_ok-child.ensures c.in_ok-beside.ensures
     n.height k.0 c.in_ok-move_suffix.ensures c.child.result c.child.ensures.0 (c.child.ensures.1 ∙ ap (λ h. h - 1) k.2) _ c.in_err-below.ensures.cuts
     S t fresh (record { sized = s; left = w; right = z; at_left = em; at_right = en; apart = a }))
 
@@ -72,8 +74,9 @@ pub returns-clause-cuts : goal.returns-clause-cuts
 returns-clause-cuts g _ c =
     let place = g.Q.Placing.places c.args.query.now in
     let n = c.args.node in
-    let v = subst (λ T. Stops place T n.node c.in_ok-idx.idx c.in_ok-idx.count) c.as_tables.ensures c.in_ok-idx.ensures in
+    let v = c.in_ok-idx.ensures in
     let k = forced_inner n c.in-Internal.inner c.in-Internal.ensures in
-    cut_inner place c.args.tables.now c.move_suffix.new.tables n.node c.in_ok-idx.idx c.in_ok-idx.count c.args.right v _
-    (c.parted.view_is ∙ c.as_tables-parted.ensures) c.cut_under.new.tables c.in-Internal.inner.node c.in_ok-child.child c.in_ok-beside.beside k.1 c.in_ok-child.ensures c.in_ok-beside.ensures
+    let same : ◌≡◌ {A = Tables _ _} (tables c.move_suffix.new.heads c.move_suffix.new.keys c.move_suffix.new.values) (tables c.move_suffix.new.heads c.move_suffix.new.keys c.move_suffix.new.values) = refl in
+    cut_inner place (tables c.args.heads.now c.args.keys.now c.args.values.now) (tables c.move_suffix.new.heads c.move_suffix.new.keys c.move_suffix.new.values) n.node c.in_ok-idx.idx c.in_ok-idx.count c.args.right v _
+    same (tables c.cut_under.new.heads c.cut_under.new.keys c.cut_under.new.values) c.in-Internal.inner.node c.in_ok-child.child c.in_ok-beside.beside k.1 c.in_ok-child.ensures c.in_ok-beside.ensures
     n.height k.0 c.in_ok-move_suffix.ensures c.child.result c.child.ensures.0 (c.child.ensures.1 ∙ ap (λ h. h - 1) k.2) c.in_ok-below.below c.in_ok-below.ensures.cuts

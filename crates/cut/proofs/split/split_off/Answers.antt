@@ -1,4 +1,5 @@
 use Rattle.std.proofs.Common.{Err, sym, refl, ap, ◌∙◌, arith}
+use Rattle.node.specs.Store.{tables}
 use Rattle.std.proofs.lemmas.Result.{err_from_is_err_and}
 use Rattle.node.proofs.Tabled.{err_not_ok, err_same}
 use Rattle.cut.specs.Split.{Halves, SplitsOff}
@@ -17,8 +18,8 @@ pub returns-in_err-left : goal.returns-in_err-left
 unfolding SplitsOff Halves
 returns-in_err-left g c = λ t o e z f n.
     let place = g.Q.Placing.places c.args.query.now in
-    let T = c.args.tables.now in
-    let T' = c.halve.new.tables in
+    let T = (tables c.args.heads.now c.args.keys.now c.args.values.now) in
+    let T' = (tables c.halve.new.heads c.halve.new.keys c.halve.new.values) in
     let S = g.S.Supply.stock c.args.supply.now in
     let S' = g.S.Supply.stock c.halve.new.supply in
     let h = c.args.root.height in
@@ -38,8 +39,8 @@ pub returns-in_err-before : goal.returns-in_err-before
 unfolding SplitsOff Halves
 returns-in_err-before g c = λ t o e z f n.
     let place = g.Q.Placing.places c.args.query.now in
-    let T = c.args.tables.now in
-    let T' = c.halve.new.tables in
+    let T = (tables c.args.heads.now c.args.keys.now c.args.values.now) in
+    let T' = (tables c.halve.new.heads c.halve.new.keys c.halve.new.values) in
     let S = g.S.Supply.stock c.args.supply.now in
     let S' = g.S.Supply.stock c.halve.new.supply in
     let h = c.args.root.height in
@@ -49,15 +50,15 @@ returns-in_err-before g c = λ t o e z f n.
       empty = λ none. absurd (omega (arith, c.if-count-eq0.false));
       declined = λ _ few. absurd (err_not_ok _ _ (sym (d.declined few).0));
       granted = λ _ room.
-          absurd (err_not_ok _ _ (counts_to place T T' S S' h t low f c.args.count n c.in_ok-left.left c.in_ok-left.right c.in_ok-left.made (d.granted room) (c.as_tables-2.view_is ∙ c.as_tables.ensures) _ c.in_err-before.ensures));
+          absurd (err_not_ok _ _ (counts_to place T T' S S' h t low f c.args.count n c.in_ok-left.left c.in_ok-left.right c.in_ok-left.made (d.granted room) refl _ c.in_err-before.ensures));
     }
 
 pub returns : goal.returns
 unfolding SplitsOff Halves
 returns g c = λ t o e z f n.
     let place = g.Q.Placing.places c.args.query.now in
-    let T = c.args.tables.now in
-    let T' = c.halve.new.tables in
+    let T = (tables c.args.heads.now c.args.keys.now c.args.values.now) in
+    let T' = (tables c.halve.new.heads c.halve.new.keys c.halve.new.values) in
     let S = g.S.Supply.stock c.args.supply.now in
     let S' = g.S.Supply.stock c.halve.new.supply in
     let h = c.args.root.height in
@@ -68,5 +69,5 @@ returns g c = λ t o e z f n.
       declined = λ _ few. absurd (err_not_ok _ _ (sym (d.declined few).0));
       granted = λ _ room.
           split_at place T T' S S' h t low f c.args.count n c.in_ok-left.left c.in_ok-left.right c.in_ok-left.made (d.granted room)
-          (c.as_tables-2.view_is ∙ c.as_tables.ensures) c.in_ok-before.before c.in_ok-before.after c.in_ok-before.ensures;
+          refl c.in_ok-before.before c.in_ok-before.after c.in_ok-before.ensures;
     }

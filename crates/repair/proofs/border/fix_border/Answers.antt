@@ -7,34 +7,34 @@ use Rattle.repair.proofs.border.fix_border.Goals as goal
 
 pub returns-in_err-top : goal.returns-in_err-top
 unfolding Repairs
-returns-in_err-top g c = rw (← c.tables.view_is) (λ t o e z low.
-    let ks = c.tables.inside.keys.now in
-    let vs = c.tables.inside.values.now in
-    absurd (tops_not c.args.side (tables c.tables.inside.heads.now ks vs) (tables c.fix_top.new.heads ks vs)
-    (g.S.Supply.stock c.args.supply.now) (g.S.Supply.stock c.fix_top.new.supply) c.args.root.height c.args.root.node _ (c.in_err-top.ensures ks vs) t o e z low))
+returns-in_err-top g c = λ t o e z low.
+    let ks = c.args.keys.now in
+    let vs = c.args.values.now in
+    absurd (tops_not c.args.side (tables c.args.heads.now ks vs) (tables c.fix_top.new.heads ks vs)
+    (g.S.Supply.stock c.args.supply.now) (g.S.Supply.stock c.fix_top.new.supply) c.args.root.height c.args.root.node _ (c.in_err-top.ensures ks vs) t o e z low)
 
 pub returns-in_err-mend : goal.returns-in_err-mend
 unfolding Repairs
-returns-in_err-mend g c = rw (← c.tables.view_is) (λ t o e z low.
-    let ks = c.tables.inside.keys.now in
-    let vs = c.tables.inside.values.now in
-    absurd (err_not_ok _ _ (mends_ok c.args.side (tables c.tables.inside.heads.now ks vs) (tables c.fix_top.new.heads ks vs)
+returns-in_err-mend g c = λ t o e z low.
+    let ks = c.args.keys.now in
+    let vs = c.args.values.now in
+    absurd (err_not_ok _ _ (mends_ok c.args.side (tables c.args.heads.now ks vs) (tables c.fix_top.new.heads ks vs)
     (g.S.Supply.stock c.args.supply.now) (g.S.Supply.stock c.fix_top.new.supply) c.args.root.height c.args.root.node c.in_ok-top.top (c.in_ok-top.ensures ks vs)
-    c.mend.new.tables (g.S.Supply.stock c.mend.new.supply) _ c.in_err-mend.ensures t o e z low)))
+    (tables c.mend.new.heads c.mend.new.keys c.mend.new.values) (g.S.Supply.stock c.mend.new.supply) _ c.in_err-mend.ensures t o e z low))
 
 pub returns : goal.returns
 unfolding Repairs
-returns g c = rw (← c.tables.view_is) (λ t o e z low.
-    let ks = c.tables.inside.keys.now in
-    let vs = c.tables.inside.values.now in
-    let ks' = c.tables-2.inside.keys.now in
-    let vs' = c.tables-2.inside.values.now in
+returns g c = λ t o e z low.
+    let ks = c.args.keys.now in
+    let vs = c.args.values.now in
+    let ks' = c.mend.new.keys in
+    let vs' = c.mend.new.values in
     let T₁ = tables c.fix_top.new.heads ks vs in
     let S₁ = g.S.Supply.stock c.fix_top.new.supply in
     let S₂ = g.S.Supply.stock c.mend.new.supply in
     let top = c.in_ok-top.top in
-    repaired c.args.side (tables c.tables.inside.heads.now ks vs) T₁
+    repaired c.args.side (tables c.args.heads.now ks vs) T₁
     (g.S.Supply.stock c.args.supply.now) S₁ c.args.root.height c.args.root.node top (c.in_ok-top.ensures ks vs)
-    (tables c.tables-2.inside.heads.now ks' vs') S₂ _
-    (subst (λ T. Mends c.args.side T₁ T S₁ S₂ top.height top.node c.mend.result) (sym c.tables-2.view_is) c.mend.ensures) t o e z low
-    (tables c.fix_top-2.new.heads ks' vs') (g.S.Supply.stock c.fix_top-2.new.supply) c.fix_top-2.result (c.fix_top-2.ensures ks' vs'))
+    (tables c.mend.new.heads ks' vs') S₂ _
+    (c.mend.ensures) t o e z low
+    (tables c.fix_top-2.new.heads ks' vs') (g.S.Supply.stock c.fix_top-2.new.supply) c.fix_top-2.result (c.fix_top-2.ensures ks' vs')
