@@ -6,7 +6,7 @@ use map::search::search_tree;
 use node::head::Head;
 use node::level::{new_leaf, push_level};
 use node::nodes::{Internal, Leaf, NodeRef};
-use node::tables::{Tables, TablesMut};
+use node::tables::Tables;
 use order::blend::BlendNumber;
 use std::test::Fail;
 
@@ -20,15 +20,25 @@ const FREE: Head = Head {
 const TOP: NodeRef = NodeRef { node: 2, height: 1 };
 
 /// The tree, with its root in node 2 and the leaves in 0 and 1.
-fn tree(tables: &mut TablesMut<'_, BlendNumber, u32>) -> Result<(), Fail> {
-    new_leaf(tables.heads, 0)?;
+fn tree(heads: &mut [Head], keys: &mut [BlendNumber], values: &mut [u32]) -> Result<(), Fail> {
+    new_leaf(heads, 0)?;
     for (idx, key) in (2..24).step_by(2).enumerate() {
-        Leaf { node: 0 }.insert_fit(tables, idx, BlendNumber::from(key), key * 10)?;
+        Leaf { node: 0 }.insert_fit(heads, keys, values, idx, BlendNumber::from(key), key * 10)?;
     }
     let leaf = NodeRef { node: 0, height: 0 };
-    let (key, value) = insert_full(tables, leaf, 6, BlendNumber::from(13), 130, 0, 1)?;
-    push_level(tables.heads, 0, 2)?;
-    Internal { node: 2, height: 1 }.insert_fit(tables, 0, key, value, 1)?;
+    let (key, value) = insert_full(
+        heads,
+        keys,
+        values,
+        leaf,
+        6,
+        BlendNumber::from(13),
+        130,
+        0,
+        1,
+    )?;
+    push_level(heads, 0, 2)?;
+    Internal { node: 2, height: 1 }.insert_fit(heads, keys, values, 0, key, value, 1)?;
     Ok(())
 }
 
@@ -37,11 +47,7 @@ fn answers_and_comparisons_are_the_originals(rt: HostRuntime) -> Result<(), Fail
     let mut heads = [FREE; 3];
     let mut keys = [BlendNumber::from(0); 33];
     let mut values = [0u32; 33];
-    tree(&mut TablesMut {
-        heads: &mut heads,
-        keys: &mut keys,
-        values: &mut values,
-    })?;
+    tree(&mut heads, &mut keys, &mut values)?;
     assert_eq!(rt; (heads[2].len, heads[0].len, heads[1].len), (1, 7, 4));
     let tables = Tables {
         heads: &heads,
@@ -74,19 +80,19 @@ fn a_value_is_replaced(rt: HostRuntime) -> Result<(), Fail> {
     let mut heads = [FREE; 3];
     let mut keys = [BlendNumber::from(0); 33];
     let mut values = [0u32; 33];
-    let mut tables = TablesMut {
-        heads: &mut heads,
-        keys: &mut keys,
-        values: &mut values,
+    tree(&mut heads, &mut keys, &mut values)?;
+    assert_eq!(rt; replace_value(&heads, &keys, &mut values, 0, 6, 7)?, 130);
+    let tables = Tables {
+        heads: &heads,
+        keys: &keys,
+        values: &values,
     };
-    tree(&mut tables)?;
-    assert_eq!(rt; replace_value(&mut tables, 0, 6, 7)?, 130);
     assert_eq!(rt;
-        search_tree(&tables.as_tables(), TOP, &BlendNumber::from(13))?,
+        search_tree(&tables, TOP, &BlendNumber::from(13))?,
         (Some(7), 8)
     );
-    assert!(rt; replace_value(&mut tables, 0, 7, 7).is_err());
-    assert!(rt; replace_value(&mut tables, 3, 0, 7).is_err());
+    assert!(rt; replace_value(&heads, &keys, &mut values, 0, 7, 7).is_err());
+    assert!(rt; replace_value(&heads, &keys, &mut values, 3, 0, 7).is_err());
     Ok(())
 }
 

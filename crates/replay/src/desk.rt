@@ -11,7 +11,7 @@ use map::search::search_tree;
 use node::ends::Side;
 use node::head::Head;
 use node::nodes::NodeRef;
-use node::tables::{Tables, TablesMut};
+use node::tables::Tables;
 use order::blend::BlendNumber;
 use std::alloc::{AllocError, Global};
 use std::error::Error;
@@ -188,17 +188,15 @@ impl Desk {
     fn put(&mut self, place: usize, key: u32, value: u32) -> Result<Answer, Refusal> {
         let (root, count) = self.book(place)?.root_and_count()?;
         let key = BlendNumber::from(key);
-        let mut tables = TablesMut {
-            heads: self.heads.as_mut_slice(),
-            keys: self.keys.as_mut_slice(),
-            values: self.values.as_mut_slice(),
-        };
+        let heads = self.heads.as_mut_slice();
+        let keys = self.keys.as_mut_slice();
+        let values = self.values.as_mut_slice();
         let Some(root) = root else {
-            let root = insert_first(&mut tables, &mut self.supply, key, value)?;
+            let root = insert_first(heads, keys, values, &mut self.supply, key, value)?;
             self.books[place] = Book::Tree(root, 1);
             return Ok(Answer::Put(None));
         };
-        let (top, old) = try_insert(&mut tables, &mut self.supply, root, key, value)?;
+        let (top, old) = try_insert(heads, keys, values, &mut self.supply, root, key, value)?;
         let count = match old {
             Some(_) => count,
             None => count.saturating_add(1),
@@ -224,13 +222,11 @@ impl Desk {
         let (Some(root), count) = book.root_and_count()? else {
             return Ok(Answer::Cut(0, 0, 0));
         };
-        let mut tables = TablesMut {
-            heads: self.heads.as_mut_slice(),
-            keys: self.keys.as_mut_slice(),
-            values: self.values.as_mut_slice(),
-        };
+        let heads = self.heads.as_mut_slice();
+        let keys = self.keys.as_mut_slice();
+        let values = self.values.as_mut_slice();
         let query = BlendNumber::from(key);
-        let done = split_off(&mut tables, &mut self.supply, root, count, &query)?;
+        let done = split_off(heads, keys, values, &mut self.supply, root, count, &query)?;
         let (left, right, made) = done.counts;
         if let Some((first, second)) = done.parts {
             self.books[from] = Book::Tree(first, left);
