@@ -14,7 +14,7 @@ use Rattle.node.specs.Kinds.{forced}
 use Rattle.node.proofs.Forced.{forced_inner}
 use Rattle.node.specs.Cells.{span, Run}
 use Rattle.node.specs.Shape.{Tree, node, none, number, row, kids, kid}
-use Rattle.node.specs.Store.{Tables, Sized, Node, Holds, head_at, first, second, numbers}
+use Rattle.node.specs.Store.{Tables, Node, Holds, head_at, first, second, numbers}
 use Rattle.node.proofs.Runs.{run_at, edge_is}
 use Rattle.node.proofs.Frames.{height_suc, holds_node, holds_fan, holds_kid}
 use Rattle.map.specs.Lookup.{nth, seek, looks, value_of, SearchedIn, keys_at}

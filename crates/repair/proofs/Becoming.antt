@@ -1,12 +1,11 @@
 -- One change of a tree after another. Assumes nothing.
-use Rattle.std.proofs.Common.{◌≡◌, ℕ, sym, subst, arith}
+use Rattle.std.proofs.Common.{ℕ, arith}
 use Rattle.supply.specs.Stocks.{Stock}
-use Rattle.node.specs.Shape.{Tree, number, row}
-use Rattle.node.specs.Store.{Tables, Sized, Holds, numbers}
+use Rattle.node.specs.Shape.{Tree}
+use Rattle.node.specs.Store.{Tables, Holds}
 use Rattle.node.specs.Laws.{occurs}
 use Rattle.node.specs.Balance.{Owns}
 use Rattle.node.proofs.Balances.{balanced_none, balanced_both, beside_none, beside_both, beside_sized}
-use Rattle.node.proofs.Frames.{holds_node}
 use Rattle.repair.specs.Repair.{Became}
 
 module _ {K V : Type 0} where

@@ -1,10 +1,9 @@
-use Rattle.std.proofs.Common.{◌≡◌, ◌-◌, ◌∙◌, refl, ap, subst, arith}
+use Rattle.std.proofs.Common.{◌≡◌, ◌-◌, ◌∙◌, refl, ap, arith}
 use Rattle.node.specs.Store.{Tables, tables}
-use Rattle.node.specs.Operations.{Strange}
 use Rattle.node.proofs.Forced.{forced_leaf, forced_inner}
 use Rattle.node.proofs.Tabled.{err_not_ok}
 use Rattle.node.proofs.Frames.{held_not_strange}
-use Rattle.cut.specs.Descent.{Stops, Cuts}
+use Rattle.cut.specs.Descent.{Cuts}
 use Rattle.cut.proofs.Descends.{moves, no_edge, cut_leaf, cut_inner, not_refused}
 use Rattle.cut.proofs.descent.+cut_under.Goals as goal
 

@@ -2,7 +2,6 @@ use Rattle.std.proofs.Common.{◌-◌, sym, ◌∙◌, subst, arith}
 use Rattle.node.specs.Store.{tables}
 use Rattle.node.specs.declared.nodes.NodeRef.{NodeRef}
 use Rattle.node.specs.Balance.{Owns}
-use Rattle.node.specs.Operations.{Lies, Strange}
 use Rattle.node.proofs.Forced.{forced_leaf, forced_inner}
 use Rattle.repair.specs.Repair.{Mends}
 use Rattle.node.proofs.Frames.{held_not_strange}

@@ -1,7 +1,6 @@
-use Rattle.std.proofs.Common.{sym, subst}
 use Rattle.node.specs.Store.{tables}
 use Rattle.node.proofs.Tabled.{err_not_ok}
-use Rattle.repair.specs.Repair.{Mends, Repairs}
+use Rattle.repair.specs.Repair.{Repairs}
 use Rattle.repair.proofs.Repairing.{tops_not, mends_ok, repaired}
 use Rattle.repair.proofs.border.fix_border.Goals as goal
 

@@ -1,6 +1,5 @@
-use Rattle.std.proofs.Common.{refl, ap, Ok, subst}
+use Rattle.std.proofs.Common.{refl, ap, Ok}
 use Rattle.std.proofs.lemmas.Result.{err_from_is_err_and}
-use Rattle.node.specs.Operations.{Strange}
 use Rattle.node.proofs.Tabled.{err_not_ok, ok_same}
 use Rattle.node.proofs.Frames.{held_not_strange}
 use Rattle.insertion.specs.Descent.{Descends}

@@ -1,6 +1,5 @@
-use Rattle.std.proofs.Common.{◌<◌, ◌≤◌, length, Err, refl, ap, ◌∙◌, subst, arith}
+use Rattle.std.proofs.Common.{◌<◌, ◌≤◌, length, Err, refl, ap, ◌∙◌, arith}
 use Rattle.node.specs.Shape.{mk}
-use Rattle.node.specs.Operations.{Strange}
 use Rattle.node.proofs.Tabled.{err_not_ok, ok_same}
 use Rattle.std.proofs.lemmas.Result.{err_from_is_err_and}
 use Rattle.node.proofs.Frames.{held_not_strange}

@@ -1,4 +1,4 @@
-use Rattle.std.proofs.Common.{refl, ◌∙◌}
+use Rattle.std.proofs.Common.{refl}
 use Rattle.node.specs.Store.{tables}
 use Rattle.node.proofs.Tabled.{err_not_ok}
 use Rattle.repair.specs.Joint.{Raises}
