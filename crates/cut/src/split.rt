@@ -15,7 +15,7 @@ use supply::{Fault, Supply, spare};
 
 /// What a cut made: the roots of both parts, none where there was nothing to cut, and how many entries are left, how many right, and how
 /// many keys were compared.
-#[derive(Clone, Copy)]
+#[derive(Clone, Copy, PartialEq, Eq, Debug)]
 pub struct Cut {
     pub parts: Option<(NodeRef, NodeRef)>,
     pub counts: (usize, usize, usize),

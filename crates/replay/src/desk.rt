@@ -68,7 +68,7 @@ impl From<Fault> for Refusal {
 }
 
 /// What stands in a place.
-#[derive(Clone, Copy)]
+#[derive(Clone, Copy, PartialEq, Eq, Debug)]
 enum Book {
     /// No tree.
     Bare,

@@ -10,7 +10,7 @@ use order::search::{SearchResult, search_node};
 use std::{fmt, io};
 
 /// Keys, each with a value beside it.
-#[derive(Clone, Copy)]
+#[derive(Clone, Copy, PartialEq, Eq, Debug)]
 pub struct Row<K, V, const N: usize> {
     pub keys: [K; N],
     pub values: [V; N],
@@ -18,7 +18,7 @@ pub struct Row<K, V, const N: usize> {
 
 /// What a lookup answers: where the search stopped, the value there if that key is the same as the query, and the
 /// comparisons made.
-#[derive(Clone, Copy)]
+#[derive(Clone, Copy, PartialEq, Eq, Debug)]
 pub struct Lookup<V> {
     pub index: usize,
     pub value: Option<V>,

@@ -7,7 +7,7 @@ use std::{fmt, io};
 use supply::{Fault, Supply, take_two};
 
 /// What is asked of a supply.
-#[derive(Clone, Copy)]
+#[derive(Clone, Copy, PartialEq, Eq, Debug)]
 pub enum Errand {
     Take,
     TakeTwo,
@@ -15,7 +15,7 @@ pub enum Errand {
 }
 
 /// What a supply hands over.
-#[derive(Clone, Copy)]
+#[derive(Clone, Copy, PartialEq, Eq, Debug)]
 pub enum Handed {
     Nothing,
     One(u16),
@@ -23,7 +23,7 @@ pub enum Handed {
 }
 
 /// The counts of a supply. `free` is how many more may be taken.
-#[derive(Clone, Copy)]
+#[derive(Clone, Copy, PartialEq, Eq, Debug)]
 pub struct Tally {
     pub size: u16,
     pub free: u16,
