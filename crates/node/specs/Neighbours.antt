@@ -20,7 +20,6 @@ pub record Paired {K V : Type 0} (T : Tables K V) (p i : ℕ) (q : Pair) : Type 
   pub differ : q.left ≡ q.right → ⊥
 
 pub record HasRows {X : Type 0} (xs : List X) (q : Pair) : Type 0 where
-  pub room : length xs ≤ 11 * 4096
   pub node : 11 * q.node + 11 ≤ length xs
   pub left : 11 * q.left + 11 ≤ length xs
   pub right : 11 * q.right + 11 ≤ length xs

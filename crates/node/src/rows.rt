@@ -16,13 +16,14 @@ pub(crate) struct Pair {
 }
 
 impl Pair {
-    ghost use Rattle.std.specs.Prelude.{◌+◌, ◌-◌, ◌<◌, ◌≤◌};
+    ghost use Rattle.std.specs.Prelude.{◌+◌, ◌-◌, ◌*◌, ◌<◌, ◌≤◌, length};
     ghost use Rattle.node.specs.Rows.{MergedRow, StolenLeft, StolenRight};
     ghost use Rattle.node.specs.Neighbours.{HasRows};
 
     /// Moves the parent's cell and the right row behind the left row.
     pub(crate) fn merge_row<T: Copy>(self, cells: &mut [T])
         requires rows { HasRows cells.old self }
+        requires room { length cells.old ≤ 11 * 4096 }
         requires fits { self.left_len + self.right_len + 1 ≤ 11 }
         ensures { MergedRow cells.old cells.new self.node self.idx self.len self.left self.left_len self.right self.right_len }
     {

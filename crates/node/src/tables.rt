@@ -6,7 +6,7 @@ use std::marker::Model;
 use supply::Fault;
 
 /// The most nodes in the tables.
-pub const MOST: usize = 4096;
+pub const MOST: usize = supply::MOST as usize;
 
 /// The tables, lent to be read.
 #[derive(Drop)]

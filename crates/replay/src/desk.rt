@@ -250,10 +250,7 @@ impl Desk {
             keys: self.keys.as_slice(),
             values: self.values.as_slice(),
         };
-        let handed = match side {
-            Side::First => walk.next(&tables, &mut self.supply),
-            Side::Last => walk.next_back(&tables, &mut self.supply),
-        };
+        let handed = walk.step(&tables, &mut self.supply, side);
         self.books[place] = Book::Walk(walk);
         Ok(Answer::Entry(handed?.map(|(key, value)| (key.number, value))))
     }

@@ -75,7 +75,7 @@ impl Walk {
     }
 
     /// Hands out the entry at one end, and gives back the nodes that it leaves behind.
-    fn step<K: Copy, V: Copy, S: Supply>(
+    pub fn step<K: Copy, V: Copy, S: Supply>(
         &mut self,
         tables: &Tables<'_, K, V>,
         supply: &mut S,
