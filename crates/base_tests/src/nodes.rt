@@ -25,7 +25,8 @@ const TOP: NodeRef = NodeRef { node: 2, height: 1 };
 /// The even keys from 2 to 22 in the leaf 0, each with ten times itself.
 fn evens(heads: &mut [Head], keys: &mut [u32], values: &mut [u32]) -> Result<(), Fail> {
     new_leaf(heads, 0)?;
-    for (idx, key) in (2..24).step_by(2).enumerate() {
+    for idx in 0..11usize {
+        let key = idx as u32 * 2 + 2;
         LEAF.insert_fit(heads, keys, values, idx, key, key * 10)?;
     }
     Ok(())

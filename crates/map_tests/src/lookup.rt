@@ -22,7 +22,8 @@ const TOP: NodeRef = NodeRef { node: 2, height: 1 };
 /// The tree, with its root in node 2 and the leaves in 0 and 1.
 fn tree(heads: &mut [Head], keys: &mut [BlendNumber], values: &mut [u32]) -> Result<(), Fail> {
     new_leaf(heads, 0)?;
-    for (idx, key) in (2..24).step_by(2).enumerate() {
+    for idx in 0..11usize {
+        let key = idx as u32 * 2 + 2;
         Leaf { node: 0 }.insert_fit(heads, keys, values, idx, BlendNumber::from(key), key * 10)?;
     }
     let leaf = NodeRef { node: 0, height: 0 };
