@@ -20,11 +20,11 @@ abbrev pub sow : List ℕ → Book → Book
 sow [] s = s
 sow (k ∷ ks) s = sow ks (step k s)
 
-abbrev pub joined : List (List (List ℕ)) → List (List ℕ)
+abbrev pub joined : {X : Type 0} → List (List X) → List X
 joined [] = []
 joined (l ∷ ls) = l ++ joined ls
 
-unfoldable pub rows : ℕ → Tree ℕ → List (List ℕ)
+unfoldable pub rows : {E : Type 0} → ℕ → Tree E → List (List E)
 rows zero t = row t ∷ []
 rows (suc h) t = row t ∷ joined (map (rows h) (kids t))
 

@@ -106,13 +106,13 @@ module _ {K V : Type 0} (T : Tables K V) where
       total_scale g [] = refl
       total_scale g (k ∷ ks) = omega (arith, total_scale g ks)
 
-  flat_few : (least : ℕ) (b : Bounds) (h : ℕ) (t : Tree (K × V)) → Shown T least b h t → length (flat h t) ≤ 11 * nodes h t
+  pub flat_few : (least : ℕ) (b : Bounds) (h : ℕ) (t : Tree (K × V)) → Shown T least b h t → length (flat h t) ≤ 11 * nodes h t
   flat_few least b zero t w = flat_zero t (rows_few least b zero t w)
   flat_few least b (suc h) t w =
       flat_suc h t (rows_few least b (suc h) t w) (shown_inner T least b h t w).fan
       (among_all (λ c k. Shown T 4 c h k) (λ k. length (flat h k) ≤ 11 * nodes h k) (λ c k v. flat_few 4 c h k v) b (kids t) (shown_kids T least b h t w))
 
-  out_inside : (S : Stock) (x : ℕ) → 0 < mark S x → x < size_of S
+  pub out_inside : (S : Stock) (x : ℕ) → 0 < mark S x → x < size_of S
   out_inside S x l =
       ⊎_elim (λ (p : x < size_of S). p) (λ (p : size_of S ≤ x). absurd (omega (arith, mark_unused S x (get_or_past S.marks x false p)))) (cases_lt x (size_of S))
 

@@ -1,0 +1,11 @@
+use Rattle.std.proofs.Common.{◌≡◌, refl}
+use Rattle.acts.specs.Acts.{LooksIn}
+use Rattle.acts.proofs.Views.{bare_book, tree_book}
+use Rattle.acts.proofs.Finding.{looks_nowhere, looks_tree}
+use Rattle.acts.proofs.looking.lookup_in.Goals as goal
+
+pub returns-in_default : goal.returns-in_default
+returns-in_default g c = looks_nowhere g.K.KeyOrder.compares c.args.tables.now c.args.here _ c.in_default.not-Tree
+
+pub returns : goal.returns
+returns g c = looks_tree g.K.KeyOrder.compares c.args.tables.now c.args.here _ c.in-Tree.root c.in-Tree.count c.in-Tree.is _ c.search_tree.ensures.seeks

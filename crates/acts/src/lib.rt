@@ -1,0 +1,6 @@
+//! What each call does at one place: the answer, and what stands there afterwards.
+
+pub mod cutting;
+pub mod inserting;
+pub mod looking;
+pub mod walking;

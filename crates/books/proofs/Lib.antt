@@ -1,0 +1,9 @@
+pub mod Placing
+pub mod Agreeing
+pub mod Keeping
+pub mod Inserting
+pub mod Stepping
+pub mod Cutting
+pub mod Ruling
+pub mod Running
+pub mod Cases

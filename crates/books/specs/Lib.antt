@@ -1,0 +1,10 @@
+pub mod Books
+pub mod Cases
+pub mod Faults
+pub mod Laws
+pub mod Meaning
+pub mod Places
+pub mod Refusals
+pub mod Rules
+pub mod Runs
+pub mod States

@@ -1,0 +1,136 @@
+-- What the rules mean for the lists of the books, in the words of an ordered map.
+--   Sound b          a tree is formed, a walk has one child more than entries in each node above the leaves, and the keys of the list rise
+--   Agrees place     a query goes with the order of the keys
+--   Agreeing c       so does the query of a call, if it has one
+--   height_in b      the height of its tree
+--   Gains e l l'     the list l gains the entry e in its place, and nothing else
+--   Answered         what an answer means for the lists before and after, one definition for each call
+--   Untouched        the places that a call leaves alone
+--   Means            that, and that a refusal changes nothing and that no other book is changed
+use Rattle.std.specs.Prelude.{◌≡◌, ℕ, ◌+◌, ◌*◌, ◌<◌, ◌≤◌, true, false, List, [], ◌∷◌, ◌++◌, length, Some, None, Ok, Err, All, Option, Result, ◌≢◌, ◌⊎◌}
+use Rattle.std.specs.declared.cmp.Ordering.{Ordering}
+use Rattle.std.specs.declared.cmp.Ordering.TheVariants.{Less, Equal, Greater}
+use Rattle.std.specs.Ordering.{is_gt, is_le}
+use Rattle.node.specs.declared.ends.Side.{Side}
+use Rattle.node.specs.Shape.{flat, Formed}
+use Rattle.node.specs.Store.{first, second}
+use Rattle.map.specs.Lookup.{Sought, value_of, InOrder}
+use Rattle.map.specs.Replacing.{Altered}
+use Rattle.walk.specs.Steps.{cons, Fanned}
+use Rattle.books.specs.declared.calls.Call.TheVariants.{Insert, Lookup, Count, Cut, Open, Step, Close, Release, Audit}
+use Rattle.books.specs.declared.calls.Answer.{Answer}
+use Rattle.books.specs.declared.calls.Answer.TheVariants.{Inserted, Found, Counted, Parted, Opened, Handed, Dropped, Audited}
+use Rattle.books.specs.Books.{Book, bare, planted, walked, idle, entries, book_in}
+use Rattle.books.specs.Refusals.{Code}
+use Rattle.books.specs.Rules.{Query, Asked, kind_of, is_map, is_walk, check}
+
+abbrev pub Sound : {K V : Type 0} → (K → K → Ordering) → Book (K × V) → Type 0
+Sound compares bare = Unit {0}
+Sound compares (planted h t) = Formed h t × InOrder compares (flat h t)
+Sound compares (walked h t) = Fanned h t × InOrder compares (flat h t)
+Sound compares idle = Unit {0}
+
+-- where a is below b or the same, a query below a is below b, and a query above b is above a
+pub record Agrees {K : Type 0} (compares : K → K → Ordering) (place : Query K) : Type 0 where
+  pub under : (a b : K) → is_le (compares a b) ≡ true → place a ≡ Less → place b ≡ Less
+  pub over : (a b : K) → is_le (compares a b) ≡ true → place b ≡ Greater → place a ≡ Greater
+
+abbrev pub Agreeing : {K V : Type 0} → (K → K → Ordering) → Asked K V → Type 0
+Agreeing compares (Insert p k v) = Unit {0}
+Agreeing compares (Lookup p place) = Agrees compares place
+Agreeing compares (Count p) = Unit {0}
+Agreeing compares (Cut p o place) = Agrees compares place
+Agreeing compares (Open p) = Unit {0}
+Agreeing compares (Step p s) = Unit {0}
+Agreeing compares (Close p) = Unit {0}
+Agreeing compares (Release p) = Unit {0}
+Agreeing compares Audit = Unit {0}
+
+abbrev pub height_in : {E : Type 0} → Book E → ℕ
+height_in bare = 0
+height_in (planted h t) = h
+height_in (walked h t) = h
+height_in idle = 0
+
+pub record Gains {E : Type 0} (e : E) (l l' : List E) : Type 0 where
+  pub ante : List E
+  pub post : List E
+  pub was : l ≡ ante ++ post
+  pub now_is : l' ≡ ante ++ e ∷ post
+
+module _ {K V : Type 0} (compares : K → K → Ordering) (a : ℕ) (b b' : Book (K × V)) (r : Result (Answer K V) Code) where
+  -- an entry of no key that is there, or another value under the key that is. Refused only where the key is not there and too few numbers may be taken
+  pub record InsertMeans (e : K × V) : Type 0 where
+    pub answers : ((o : Option V) × (r ≡ Ok (Inserted o)))
+        ⊎ ((n : ℕ) × (r ≡ Err (6, n ∷ a ∷ [])) × (a < n) × (n ≤ height_in b + 2) × All (λ y. compares (first e) (first y) ≢ Equal) (entries b))
+    pub kind : is_map (kind_of b') ≡ true
+    pub new : r ≡ Ok (Inserted None) → All (λ y. compares (first e) (first y) ≢ Equal) (entries b) × Gains e (entries b) (entries b')
+    pub old : (v : V) → r ≡ Ok (Inserted (Some v))
+        → (x : K × V) × (compares (first e) (first x) ≡ Equal) × (second x ≡ v) × Altered (λ y. (first y, second e)) x (entries b) (entries b')
+
+  -- the value of an entry whose key is the same as the query, or none where there is no such entry
+  pub record LookupMeans (place : Query K) : Type 0 where
+    pub answers : (o : Option V) × (n : ℕ) × (r ≡ Ok (Found o n))
+    pub finds : (o : Option V) (n : ℕ) → r ≡ Ok (Found o n) → (x : Option (K × V)) × (o ≡ value_of x) × Sought (λ y. place (first y)) (entries b) x
+    pub bound : (o : Option V) (n : ℕ) → r ≡ Ok (Found o n) → n ≤ 11 * (height_in b + 1)
+
+  -- the entry at that end of the list, or none where nothing is left
+  pub record StepMeans (s : Side) : Type 0 where
+    pub answers : (x : Option (K × V)) × (r ≡ Ok (Handed x))
+    pub kind : is_walk (kind_of b') ≡ true
+    pub none_left : r ≡ Ok (Handed None) → (entries b ≡ []) × (b' ≡ b)
+    pub next : (e : K × V) → r ≡ Ok (Handed (Some e)) → entries b ≡ cons s e (entries b')
+
+  pub record OpenMeans : Type 0 where
+    pub answers : r ≡ Ok Opened
+    pub kind : is_walk (kind_of b') ≡ true
+    pub all : entries b' ≡ entries b
+
+  pub record DropMeans : Type 0 where
+    pub answers : r ≡ Ok (Dropped (length (entries b)))
+    pub none_left : b' ≡ bare
+
+  pub record CountMeans : Type 0 where
+    pub answers : r ≡ Ok (Counted (length (entries b)))
+    pub unchanged : b' ≡ b
+
+  -- d': what the second place has afterwards. Refused just where fewer numbers may be taken than the tree has levels; else the list is parted
+  pub record CutMeans (d' : Book (K × V)) (place : Query K) : Type 0 where
+    pub kinds : (is_map (kind_of b') ≡ true) × (is_map (kind_of d') ≡ true)
+    pub declined : 0 < length (entries b) → a < height_in b + 1 → r ≡ Err (6, (height_in b + 1) ∷ a ∷ [])
+    pub granted : 0 < length (entries b) → height_in b + 1 ≤ a → (l : ℕ) × (m : ℕ) × (n : ℕ) × (r ≡ Ok (Parted l m n))
+    pub empty : entries b ≡ [] → (r ≡ Ok (Parted 0 0 0)) × (b' ≡ b) × (d' ≡ bare)
+    pub whole : (l m n : ℕ) → r ≡ Ok (Parted l m n) → entries b' ++ entries d' ≡ entries b
+    pub counts : (l m n : ℕ) → r ≡ Ok (Parted l m n) → (l ≡ length (entries b')) × (m ≡ length (entries d')) × (n ≤ 11 * (height_in b + 1))
+    pub below : (l m n : ℕ) → r ≡ Ok (Parted l m n) → All (λ y. is_gt (place (first y)) ≡ true) (entries b')
+    pub not_below : (l m n : ℕ) → r ≡ Ok (Parted l m n) → All (λ y. is_gt (place (first y)) ≡ false) (entries d')
+
+module _ {K V : Type 0} (compares : K → K → Ordering) (a : ℕ) (bs bs' : List (Book (K × V))) (r : Result (Answer K V) Code) where
+  abbrev pub Answered : Asked K V → Type 0
+  Answered (Insert p k v) = InsertMeans compares a (book_in bs p) (book_in bs' p) r (k, v)
+  Answered (Lookup p place) = LookupMeans compares a (book_in bs p) (book_in bs' p) r place
+  Answered (Count p) = CountMeans compares a (book_in bs p) (book_in bs' p) r
+  Answered (Cut p o place) = CutMeans compares a (book_in bs p) (book_in bs' p) r (book_in bs' o) place
+  Answered (Open p) = OpenMeans compares a (book_in bs p) (book_in bs' p) r
+  Answered (Step p s) = StepMeans compares a (book_in bs p) (book_in bs' p) r s
+  Answered (Close p) = DropMeans compares a (book_in bs p) (book_in bs' p) r
+  Answered (Release p) = DropMeans compares a (book_in bs p) (book_in bs' p) r
+  Answered Audit = r ≡ Ok (Audited true)
+
+  -- the places that a call leaves alone
+  abbrev pub Untouched : Asked K V → ℕ → Type 0
+  Untouched (Insert p k v) x = x ≢ p
+  Untouched (Lookup p place) x = Unit {0}
+  Untouched (Count p) x = Unit {0}
+  Untouched (Cut p o place) x = (x ≢ p) × (x ≢ o)
+  Untouched (Open p) x = x ≢ p
+  Untouched (Step p s) x = x ≢ p
+  Untouched (Close p) x = x ≢ p
+  Untouched (Release p) x = x ≢ p
+  Untouched Audit x = Unit {0}
+
+  pub record Means (c : Asked K V) : Type 0 where
+    pub refused : (e : Code) → r ≡ Err e → bs' ≡ bs
+    pub checked : (e : Code) → check (λ p. kind_of (book_in bs p)) c ≡ Some e → r ≡ Err e
+    pub others : (x : ℕ) → Untouched c x → book_in bs' x ≡ book_in bs x
+    pub answered : check (λ p. kind_of (book_in bs p)) c ≡ None → Answered c

@@ -1,0 +1,15 @@
+-- The number of a refusal, and the values that go with it.
+use Rattle.std.specs.Prelude.{ℕ, List, [], ◌∷◌}
+use Rattle.books.specs.declared.refusals.Refusal.{Refusal}
+use Rattle.books.specs.declared.refusals.Refusal.TheVariants.{Tables, Supply, Place, Kind, Breach, Short}
+
+abbrev pub Code : Type 0
+Code = ℕ × List ℕ
+
+abbrev pub code : Refusal → Code
+code Tables = (1, [])
+code Supply = (2, [])
+code Place = (3, [])
+code Kind = (4, [])
+code Breach = (5, [])
+code (Short needed allowance) = (6, needed ∷ allowance ∷ [])
