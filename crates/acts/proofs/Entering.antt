@@ -1,5 +1,6 @@
 -- An entry put in at a place.
 use Rattle.std.proofs.Common.{◌≡◌, ℕ, ◌+◌, ◌<◌, ◌≤◌, true, false, cond, List, [], ◌∷◌, length, Some, None, Ok, Err, Option, Result, refl, sym, ap, ◌∙◌, subst, arith, nat_lt}
+use Rattle.std.proofs.lemmas.Bool.{cases_lt, lt-ltb, le-ltb}
 use Rattle.std.specs.declared.cmp.Ordering.{Ordering}
 use Rattle.supply.specs.declared.faults.Fault.{Fault}
 use Rattle.supply.specs.declared.faults.Fault.TheVariants.{Short}
@@ -29,10 +30,10 @@ use Rattle.std.proofs.lemmas.List.Elements.{All-nil}
 -- ---- what may be taken
 
 pub lacks : {X : Type 0} (n a : ℕ) (x y : X) → a < n → cond (nat_lt a n) x y ≡ x
-lacks n a x y l = let b : nat_lt a n ≡ true = omega (arith, l) in ap (λ c. cond c x y) b
+lacks n a x y l = ap (λ c. cond c x y) (lt-ltb a n l)
 
 pub enough : {X : Type 0} (n a : ℕ) (x y : X) → n ≤ a → cond (nat_lt a n) x y ≡ y
-enough n a x y l = let b : nat_lt a n ≡ false = omega (arith, l) in ap (λ c. cond c x y) b
+enough n a x y l = ap (λ c. cond c x y) (le-ltb a n l)
 
 module _ {K V : Type 0} (compares : K → K → Ordering) (T T' : Tables K V) (S S' : Stock) (p : Place) (e : K × V) where
   begun_short : (f : Fault) → Begun T T' S S' e (Err f) → InsertsBy compares T T' S S' e bare (Err f)

@@ -7,7 +7,7 @@ use Rattle.acts.proofs.inserting.insert_in.Goals as goal
 
 pub returns-in_err-root : goal.returns-in_err-root
 returns-in_err-root g c =
-    let p = err_from_is_err_and c.from_residual-in_err-root.result c.from_residual-in_err-root.ensures.1 in
+    let p = err_from_is_err_and c.from_residual.result c.from_residual.ensures.1 in
     rw (p.1, p.2) (refuses_bare g.K.KeyOrder.compares _ _ _ _ c.args.here _ c.in_default.not-Tree _ c.in_err-root.ensures)
 
 pub returns-in_default : goal.returns-in_default
