@@ -24,8 +24,8 @@ module _ {K V : Type 0} (compares : K → K → Ordering) (T : Tables K V) (p : 
   looks_tree root count e r f S b w m =
       let v = ready_tree compares T S root count p b e w in
       subst (λ b'. MatchResult r (λ y. lookup_in place b' ≡ Ok (found {K = K} y)) (λ _. ⊥)) (sym v.book_is)
-      (looked v.tree (f v.low v.tree w.sized v.here.holds v.node_is))
+      (looked root.height v.tree (f v.low v.tree w.sized v.here.holds v.node_is))
     where
-      looked : {h : ℕ} (t : Tree (K × V)) → r ≡ Ok (value_of (seek (λ y. place (first y)) h t), looks (λ y. place (first y)) h t)
+      looked : (h : ℕ) (t : Tree (K × V)) → r ≡ Ok (value_of (seek (λ y. place (first y)) h t), looks (λ y. place (first y)) h t)
           → MatchResult r (λ y. lookup_in place (planted h t) ≡ Ok (found {K = K} y)) (λ _. ⊥)
-      looked {h} t a = subst (λ x. MatchResult x (λ y. lookup_in place (planted h t) ≡ Ok (found {K = K} y)) (λ _. ⊥)) (sym a) refl
+      looked h t a = subst (λ x. MatchResult x (λ y. lookup_in place (planted h t) ≡ Ok (found {K = K} y)) (λ _. ⊥)) (sym a) refl

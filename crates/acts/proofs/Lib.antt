@@ -1,3 +1,5 @@
 pub mod Entering
 pub mod Finding
+pub mod Handing
+pub mod Parting
 pub mod Views

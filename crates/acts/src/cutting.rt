@@ -1,13 +1,13 @@
 //! The book of a place cut in two.
 
+ghost use Rattle.node.specs.Store.{tables};
+ghost use Rattle.acts.specs.Acts.{CutsIn};
+
 use books::places::Place;
 use cut::split::split_off;
 use node::head::Head;
 use order::keys::{KeyOrder, Placing, Query};
 use supply::{Fault, Supply};
-
-ghost use Rattle.node.specs.Store.{tables};
-ghost use Rattle.acts.specs.Acts.{CutsIn};
 
 /// Cuts a bare place or a tree at a query. Answers what stands in both places then, and the entries left, the entries right and the
 /// comparisons made.

@@ -1,13 +1,13 @@
 //! Walks over the book of a place, and its release.
 
+ghost use Rattle.acts.specs.Acts.{OpensIn, StepsIn, ClosesIn, ReleasesIn};
+
 use books::places::Place;
 use node::ends::Side;
 use node::tables::Tables;
 use order::keys::KeyOrder;
 use supply::{Fault, Supply};
 use walk::walks::{Walk, release};
-
-ghost use Rattle.acts.specs.Acts.{OpensIn, StepsIn, ClosesIn, ReleasesIn};
 
 /// A walk over all entries of a bare place or a tree.
 pub fn open_in<K: KeyOrder, V, S: Supply>(

@@ -9,4 +9,4 @@ abbrev pub place_in : List Place → ℕ → Place
 place_in ps p = slice_index_or ps p Bare
 
 abbrev pub NamedPlace : List Place → ℕ → Option Place → Type 0
-NamedPlace ps p r = MatchOption r (16 ≤ p) (λ x. (p < 16) × (x ≡ place_in ps p))
+NamedPlace ps p r = MatchOption r (16 ≤ p) (λ x. (p < 16) × (x ≡ place_in ps p) × (length ps ≡ 16))

@@ -45,9 +45,9 @@ impl From<Fault> for Refusal {
     ghost use Rattle.books.specs.Refusals.{code};
     ghost use Rattle.books.specs.Faults.{fault_code};
 
-    fn from(fault: Fault) -> Refusal
-        ensures { code result ≡ fault_code fault }
-    {
+    ghost from_gives = { λ f e. code e ≡ fault_code f };
+
+    fn from(fault: Fault) -> Refusal {
         match fault {
             Fault::Breach => Refusal::Breach,
             Fault::Short { needed, allowance } => Refusal::Short { needed, allowance },

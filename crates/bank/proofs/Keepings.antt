@@ -1,0 +1,134 @@
+-- A bank whose books are replaced in one place, or in two, while the others stand beside. Assumes nothing.
+use Rattle.std.proofs.Common.{◌≡◌, ◌≢◌, ℕ, ◌+◌, ◌*◌, ◌<◌, ◌≤◌, true, false, inl, inr, List, [], ◌∷◌, length, slice_set, nat_lt, Some, None, All, refl, sym, ap, ◌∙◌, subst, arith, slice_index_or, length-set, get_or-set_same, get_or-set_other, ◌⊎◌}
+use Rattle.std.proofs.lemmas.Bool.{cases_eq}
+use Rattle.std.proofs.lemmas.List.{get_or_default}
+use Rattle.std.specs.declared.cmp.Ordering.{Ordering}
+use Rattle.supply.specs.Stocks.{Stock, size_of}
+use Rattle.node.specs.Balance.{mark, Balanced, Beside}
+use Rattle.node.specs.Laws.{occurs, below}
+use Rattle.node.specs.Shape.{Tree, number, total, root_least}
+use Rattle.node.specs.Store.{Tables, Sized}
+use Rattle.node.proofs.Balances.{beside_holds, beside_sized}
+use Rattle.node.proofs.Numbers.{occurs_root, occurs_below}
+use Rattle.walk.proofs.Framing.{shown_frame}
+use Rattle.walk.proofs.Windows.{shown_fanned}
+use Rattle.walk.specs.declared.walks.Walk.{Walk}
+use Rattle.books.specs.declared.places.Place.{Place}
+use Rattle.books.specs.declared.places.Place.TheVariants as P
+use Rattle.books.specs.Books.{Book, bare, planted, walked, idle, uses, book_in, TreeAt, WalkAt, BookAt}
+use Rattle.books.specs.Meaning.{Sound}
+use Rattle.books.specs.Places.{place_in}
+use Rattle.books.specs.Rules.{kind_of, kind_at}
+use Rattle.books.specs.States.{State, Models}
+use Rattle.books.proofs.Placing.{there, elsewhere, replaced, sixteen}
+use Rattle.acts.specs.Acts.{Ready, Becomes, Halves}
+
+module _ {K V : Type 0} (compares : K → K → Ordering) where
+  pub sound_at : (T : Tables K V) (p : Place) (b : Book (K × V)) → BookAt compares T p b → Sound compares b
+  sound_at T p bare a = tt
+  sound_at T P.Bare (planted h t) a = absurd a
+  sound_at T (P.Tree root count) (planted h t) a = (a.formed, a.in_order)
+  sound_at T (P.Walk w) (planted h t) a = absurd a
+  sound_at T P.Bare (walked h t) a = absurd a
+  sound_at T (P.Tree root count) (walked h t) a = absurd a
+  sound_at T (P.Walk w) (walked h t) a = (shown_fanned T _ _ h t a.shown, a.in_order)
+  sound_at T p idle a = tt
+
+  pub kind_same : (T : Tables K V) (p : Place) (b : Book (K × V)) → BookAt compares T p b → kind_of b ≡ kind_at p
+  kind_same T P.Bare bare a = refl
+  kind_same T (P.Tree root count) bare a = absurd a
+  kind_same T (P.Walk w) bare a = absurd a
+  kind_same T P.Bare (planted h t) a = absurd a
+  kind_same T (P.Tree root count) (planted h t) a = refl
+  kind_same T (P.Walk w) (planted h t) a = absurd a
+  kind_same T P.Bare (walked h t) a = absurd a
+  kind_same T (P.Tree root count) (walked h t) a = absurd a
+  kind_same T (P.Walk w) (walked h t) a = refl
+  kind_same T P.Bare idle a = absurd a
+  kind_same T (P.Tree root count) idle a = absurd a
+  kind_same T (P.Walk w) idle a = refl
+
+  -- a book that stands beside what changes is still there
+  module _ (T T' : Tables K V) (S : Stock) (f : ℕ → ℕ) (z : Beside T T' S f) where
+    pub book_beside : (p : Place) (b : Book (K × V)) → ((x : ℕ) → f x + uses x b ≤ mark S x) → BookAt compares T p b → BookAt compares T' p b
+    book_beside P.Bare bare o a = tt
+    book_beside (P.Tree root count) bare o a = absurd a
+    book_beside (P.Walk w) bare o a = absurd a
+    book_beside P.Bare (planted h t) o a = absurd a
+    book_beside (P.Tree root count) (planted h t) o a = record {
+      root_is = a.root_is;
+      holds = beside_holds T T' S f h t z o a.holds;
+      formed = a.formed;
+      rooted = (z.links (number t) (omega (arith, o (number t), occurs_root h t))).parent_same ∙ a.rooted;
+      count_is = a.count_is;
+      in_order = a.in_order;
+    }
+    book_beside (P.Walk w) (planted h t) o a = absurd a
+    book_beside P.Bare (walked h t) o a = absurd a
+    book_beside (P.Tree root count) (walked h t) o a = absurd a
+    book_beside (P.Walk w) (walked h t) o a = record {
+      low = a.low;
+      shown = shown_frame T T' _ _ h t z.heads_len (λ x p. z.bodies x (omega (arith, o x))) (λ x p. z.links x (omega (arith, o x, occurs_below x h t))) a.shown;
+      rooted = (z.links (number t) (omega (arith, o (number t), occurs_root h t))).parent_same ∙ a.rooted;
+      count_is = a.count_is;
+      in_order = a.in_order;
+    }
+    book_beside P.Bare idle o a = absurd a
+    book_beside (P.Tree root count) idle o a = absurd a
+    book_beside (P.Walk w) idle o a = a
+
+-- ---- sums over the books
+
+module _ {E : Type 0} where
+  pub uses_one : (bs : List (Book E)) (p : ℕ) (x : ℕ) → p < length bs → uses x (book_in bs p) ≤ total (uses x) bs
+  uses_one bs p x l = omega (arith, replaced (uses x) bs p bare l)
+
+  pub uses_two : (bs : List (Book E)) (p q : ℕ) (x : ℕ) → p < length bs → q < length bs → q ≢ p → uses x (book_in bs p) + uses x (book_in bs q) ≤ total (uses x) bs
+  uses_two bs p q x l k n =
+      let a = replaced (uses x) bs p bare l in
+      let b = uses_one (slice_set bs p bare) q x (subst (λ m. q < m) (sym (size bs p)) k) in
+      let c = ap (uses x) (elsewhere bs p q bare n) in
+      omega (arith, a, b, c)
+    where
+      size : (bs : List (Book E)) (p : ℕ) → length (slice_set bs p bare) ≡ length bs
+      size bs p = length-set bs p bare
+
+-- ---- the whole bank
+
+module _ {K V : Type 0} (compares : K → K → Ordering) (s : State K V) (bs : List (Book (K × V))) (m : Models compares s bs) where
+  pub all_sound : All (Sound compares) bs
+  all_sound = λ p d l.
+      subst (Sound compares) (get_or_default bs p bare d l)
+      (sound_at compares s.tables (place_in s.places p) (book_in bs p) (m.held p (subst (λ n. p < n) m.sixteen l)))
+
+  pub ready_at : 0 < s.size → (p : ℕ) → p < 16 → Ready compares s.tables s.stock (place_in s.places p) (book_in bs p)
+  ready_at some p l = record {
+    at = m.held p l;
+    sized = m.sized;
+    fits = m.fits some ∙ m.size_is;
+    owned = λ x. omega (arith, uses_one bs p x (subst (λ n. p < n) (sym m.sixteen) l), m.numbers x);
+  }
+
+  module _ (T' : Tables K V) (S' : Stock) (p : ℕ) (l : p < 16) (len : length s.places ≡ 16) (place : Place) (b' : Book (K × V)) (d : Becomes compares s.tables T' s.stock S' (book_in bs p) place b') where
+    pub one_replaced : Models compares (record { tables = T'; size = s.size; places = slice_set s.places p place; stock = S' }) (slice_set bs p b')
+    one_replaced = record {
+      sized = beside_sized s.tables T' s.stock (λ x. uses x (book_in bs p)) d.beside m.sized;
+      size_is = m.size_is ∙ sym d.beside.heads_len;
+      fits = λ k. d.balanced.size ∙ m.fits k;
+      sixteen = sixteen bs p b' m.sixteen;
+      held = λ q k. go q k (cases_eq q p);
+      numbers = λ x. omega (arith, replaced (uses x) bs p b' here, m.numbers x, d.balanced.marks x);
+    }
+      where
+        here : p < length bs
+        here = subst (λ n. p < n) (sym m.sixteen) l
+
+        go : (q : ℕ) → q < 16 → (q ≡ p) ⊎ (q ≢ p) → BookAt compares T' (place_in (slice_set s.places p place) q) (book_in (slice_set bs p b') q)
+        go q k (inl e) = subst (λ r. BookAt compares T' (place_in (slice_set s.places p place) r) (book_in (slice_set bs p b') r)) (sym e)
+            (subst (λ c. BookAt compares T' c (book_in (slice_set bs p b') p)) (sym (get_or-set_same s.places p place P.Bare (subst (λ n. p < n) (sym len) l)))
+            (subst (λ c. BookAt compares T' place c) (sym (there bs p b' here)) d.at))
+        go q k (inr n) =
+            subst (λ c. BookAt compares T' c (book_in (slice_set bs p b') q)) (sym (get_or-set_other s.places p q place P.Bare n))
+            (subst (λ c. BookAt compares T' (place_in s.places q) c) (sym (elsewhere bs p q b' n))
+            (book_beside compares s.tables T' s.stock (λ x. uses x (book_in bs p)) d.beside (place_in s.places q) (book_in bs q)
+            (λ x. omega (arith, uses_two bs p q x here (subst (λ n. q < n) (sym m.sixteen) k) n, m.numbers x)) (m.held q k)))

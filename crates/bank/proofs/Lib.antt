@@ -1,0 +1,3 @@
+pub mod Keepings
+pub mod Meetings
+pub mod Performing

@@ -1,0 +1,103 @@
+-- What a call does to a bank in good form, from what it does at its places. Assumes nothing.
+use Rattle.std.proofs.Common.{◌≡◌, ◌≢◌, ℕ, ◌+◌, ◌*◌, ◌<◌, ◌≤◌, Bool, true, false, inl, inr, cond, List, [], ◌∷◌, length, slice_set, nat_lt, nat_eq, Some, None, Ok, Err, Option, Result, All, refl, sym, ap, ◌∙◌, subst, arith, ◌⊎◌}
+use Rattle.std.proofs.lemmas.Bool.{cases_lt, ltb-true, false≢true}
+use Rattle.std.proofs.lemmas.Option.{none-some}
+use Rattle.std.specs.declared.cmp.Ordering.{Ordering}
+use Rattle.supply.specs.Stocks.{Stock, size_of, outs_of}
+use Rattle.order.specs.Laws.{Ordered}
+use Rattle.node.specs.Balance.{Unchanged}
+use Rattle.node.specs.Store.{Tables}
+use Rattle.books.specs.declared.places.Place.{Place}
+use Rattle.books.specs.declared.calls.Answer.{Answer}
+use Rattle.books.specs.declared.calls.Call.TheVariants.{Insert, Lookup, Count, Cut, Open, Step, Close, Release, Audit}
+use Rattle.books.specs.Books.{Book, bare, book_in}
+use Rattle.books.specs.Meaning.{Agreeing, Means}
+use Rattle.books.specs.Places.{place_in}
+use Rattle.books.specs.Refusals.{Code}
+use Rattle.books.specs.Rules.{Asked, Kind, Outcome, outcome, Part, Parts, placed, parted, rule, checked, act, check, check_one, check_two, no_place, wrong_kind, kind_of, is_map, is_walk, is_bare}
+use Rattle.books.specs.Runs.{Event, event, Next, Runs, Even}
+use Rattle.books.specs.States.{State, Models}
+use Rattle.books.proofs.Keeping.{ok_err}
+use Rattle.books.proofs.Placing.{again}
+use Rattle.books.proofs.Ruling.{rule_means}
+use Rattle.books.proofs.Running.{sound_low, runs_stand}
+use Rattle.acts.specs.Acts.{Becomes, Halves}
+use Rattle.bank.specs.Calls.{Fit, Met}
+use Rattle.bank.specs.Gate.{kinds}
+use Rattle.bank.proofs.Keepings.{all_sound, kind_same, one_replaced}
+
+-- ---- the checks, by places and by books
+
+module _ (k k' : ℕ → Kind) (same : (p : ℕ) → p < 16 → k p ≡ k' p) where
+  one_same : (f : Kind → Bool) (p : ℕ) → check_one k f p ≡ check_one k' f p
+  one_same f p = go (nat_lt p 16) refl
+    where
+      go : (l : Bool) → nat_lt p 16 ≡ l → cond l (cond (f (k p)) None wrong_kind) no_place ≡ cond l (cond (f (k' p)) None wrong_kind) no_place
+      go true q = ap (λ x. cond (f x) None wrong_kind) (same p (ltb-true p 16 q))
+      go false q = refl
+
+  two_same : (p o : ℕ) → check_two k p o ≡ check_two k' p o
+  two_same p o = go (nat_lt p 16) refl (nat_lt o 16) refl
+    where
+      at : Kind → Kind → Option Code
+      at x y = cond (is_map x) (cond (is_bare y) (cond (nat_eq p o) wrong_kind None) wrong_kind) wrong_kind
+
+      go : (l : Bool) → nat_lt p 16 ≡ l → (l' : Bool) → nat_lt o 16 ≡ l' → cond l (cond l' (at (k p) (k o)) no_place) no_place ≡ cond l (cond l' (at (k' p) (k' o)) no_place) no_place
+      go true q true q' = ap (λ x. at x (k o)) (same p (ltb-true p 16 q)) ∙ ap (λ y. at (k' p) y) (same o (ltb-true o 16 q'))
+      go true q false q' = refl
+      go false q l' q' = refl
+
+  pub check_same : {K V : Type 0} (c : Asked K V) → check k c ≡ check k' c
+  check_same (Insert p x v) = one_same is_map p
+  check_same (Lookup p q) = one_same is_map p
+  check_same (Count p) = one_same (λ _. true) p
+  check_same (Cut p o q) = two_same p o
+  check_same (Open p) = one_same is_map p
+  check_same (Step p d) = one_same is_walk p
+  check_same (Close p) = one_same is_walk p
+  check_same (Release p) = one_same is_map p
+  check_same Audit = refl
+
+module _ {K V : Type 0} {compares : K → K → Ordering} (ordered : Ordered compares) (s : State K V) (c : Asked K V) (pass : check (kinds s.places) c ≡ None) (bs : List (Book (K × V))) (m : Models compares s bs) where
+  pub rule_acts : (fresh : ℕ → ℕ) (top : ℕ) → rule compares fresh top s.stock.allowance c bs ≡ act compares fresh top s.stock.allowance c bs
+  rule_acts fresh top =
+      ap (checked compares fresh top s.stock.allowance c bs)
+      (check_same (λ p. kind_of (book_in bs p)) (kinds s.places) (λ p l. kind_same compares s.tables (place_in s.places p) (book_in bs p) (m.held p l)) c ∙ pass)
+
+  module _ (s' : State K V) (r : Result (Answer K V) Code) (books : List (Book (K × V))) (m' : Models compares s' books) (fresh : ℕ → ℕ) (top : ℕ)
+      (by : outcome r books ≡ act compares fresh top s.stock.allowance c bs) (size : size_of s'.stock ≡ size_of s.stock) (allowance : s'.stock.allowance + outs_of s'.stock ≡ s.stock.allowance + outs_of s.stock)
+      (declined : (e : Code) → r ≡ Err e → s' ≡ s) where
+    following : Next compares (event c r) s.stock bs s'.stock books
+    following = record { fresh = fresh; top = top; by_rule = by ∙ sym (rule_acts fresh top); size = size; allowance = allowance }
+
+    running : (past : List (Event K V)) → Runs compares past s.stock bs → Runs compares (event c r ∷ past) s'.stock books
+    unfolding Runs
+    running past w = (s.stock, bs, w, following)
+
+    pub met_by : Met compares c s s' r bs
+    met_by = record {
+      books = books;
+      models = m';
+      next = following;
+      means = λ g. subst (λ (o : Outcome K V). Means compares s.stock.allowance bs o.books o.answer c) (rule_acts fresh top ∙ sym by) (rule_means compares fresh top s.stock.allowance c bs ordered g m.sixteen (all_sound compares s bs m));
+      runs = running;
+      even = λ past w. (runs_stand compares (event c r ∷ past) s'.stock books ordered (running past w)).2;
+      low = sound_low compares books (all_sound compares s' books m');
+      declined = declined;
+    }
+
+  -- granted: the place and its book are replaced
+  pub met_one : (p : ℕ) → p < 16 → length s.places ≡ 16 → (fresh : ℕ → ℕ) (top : ℕ) (o : Part K V) → act compares fresh top s.stock.allowance c bs ≡ placed p bs o → (T' : Tables K V) (S' : Stock) (place : Place) (x : Answer K V) → o.0 ≡ Ok x
+      → Becomes compares s.tables T' s.stock S' (book_in bs p) place o.1 → Met compares c s (record { tables = T'; size = s.size; places = slice_set s.places p place; stock = S' }) (Ok x) bs
+  met_one p l len fresh top o by T' S' place x q d =
+      met_by (record { tables = T'; size = s.size; places = slice_set s.places p place; stock = S' }) (Ok x) (slice_set bs p o.1) (one_replaced compares s bs m T' S' p l len place o.1 d) fresh top
+      (ap (λ r. outcome r (slice_set bs p o.1)) (sym q) ∙ sym by) d.balanced.size d.balanced.allowance (λ e z. absurd (ok_err x e z))
+
+  -- nothing has changed
+  pub met_same : (s' : State K V) → s' ≡ s → (fresh : ℕ → ℕ) (top : ℕ) (r : Result (Answer K V) Code) → act compares fresh top s.stock.allowance c bs ≡ outcome r bs → Met compares c s s' r bs
+  met_same s' e fresh top r by = subst (λ z. Met compares c s z r bs) (sym e) (met_by s r bs m fresh top (sym by) refl refl (λ e z. refl))
+
+  -- declined: nothing has changed
+  pub met_declined : (s' : State K V) → s' ≡ s → (p : ℕ) (fresh : ℕ → ℕ) (top : ℕ) (o : Part K V) → act compares fresh top s.stock.allowance c bs ≡ placed p bs o → (e : Code) → o ≡ (Err e, book_in bs p) → Met compares c s s' (Err e) bs
+  met_declined s' z p fresh top o by e q =
+      met_same s' z fresh top (Err e) (by ∙ ap (placed p bs) q ∙ ap (outcome (Err e)) (again bs p (book_in bs p) refl))

@@ -1,0 +1,27 @@
+-- What is checked before a call does anything.
+--   Fits n k v       tables of n heads, k keys and v values fit together
+--   kinds ps p       what kind of thing stands in place p
+--   Admits, Permits  a place is answered where the call passes the checks of places; else the refusal that they say
+use Rattle.std.specs.Prelude.{◌≡◌, ℕ, ◌*◌, ◌<◌, ◌≤◌, List, length, Some, None, Result, MatchResult}
+use Rattle.books.specs.declared.places.Place.{Place}
+use Rattle.books.specs.declared.refusals.Refusal.{Refusal}
+use Rattle.books.specs.Places.{place_in}
+use Rattle.books.specs.Refusals.{code}
+use Rattle.books.specs.Rules.{Kind, kind_at, check_one, check_two}
+use Rattle.bank.specs.declared.gate.CallKind.{CallKind}
+use Rattle.bank.specs.Kinds.{allowed}
+
+pub record Fits (heads keys values : ℕ) : Type 0 where
+  pub some : 0 < heads
+  pub most : heads ≤ 4096
+  pub keys_room : keys ≡ 11 * heads
+  pub values_room : values ≡ 11 * heads
+
+abbrev pub kinds : List Place → ℕ → Kind
+kinds ps p = kind_at (place_in ps p)
+
+abbrev pub Admits : List Place → CallKind → ℕ → Result Place Refusal → Type 0
+Admits ps call p r = MatchResult r (λ x. (check_one (kinds ps) (allowed call) p ≡ None) × (x ≡ place_in ps p) × (length ps ≡ 16)) (λ e. check_one (kinds ps) (allowed call) p ≡ Some (code e))
+
+abbrev pub Permits : List Place → ℕ → ℕ → Result Place Refusal → Type 0
+Permits ps p o r = MatchResult r (λ x. (check_two (kinds ps) p o ≡ None) × (x ≡ place_in ps p) × (length ps ≡ 16)) (λ e. check_two (kinds ps) p o ≡ Some (code e))

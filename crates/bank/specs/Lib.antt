@@ -1,0 +1,5 @@
+pub mod Banks
+pub mod Calls
+pub mod Fitting
+pub mod Gate
+pub mod Kinds

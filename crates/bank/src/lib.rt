@@ -1,0 +1,6 @@
+//! A bank of sixteen ordered books, whose nodes share the tables of its caller.
+
+
+pub mod bank;
+mod gate;
+
