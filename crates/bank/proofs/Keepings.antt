@@ -132,3 +132,45 @@ module _ {K V : Type 0} (compares : K → K → Ordering) (s : State K V) (bs : 
             (subst (λ c. BookAt compares T' (place_in s.places q) c) (sym (elsewhere bs p q b' n))
             (book_beside compares s.tables T' s.stock (λ x. uses x (book_in bs p)) d.beside (place_in s.places q) (book_in bs q)
             (λ x. omega (arith, uses_two bs p q x here (subst (λ n. q < n) (sym m.sixteen) k) n, m.numbers x)) (m.held q k)))
+
+  -- two places, of which the second was bare
+  module _ (T' : Tables K V) (S' : Stock) (p o : ℕ) (l : p < 16) (k : o < 16) (n : p ≢ o) (len : length s.places ≡ 16) (none : book_in bs o ≡ bare) (x y : Place) (b b' : Book (K × V)) (d : Halves compares s.tables T' s.stock S' (book_in bs p) x y b b') where
+    pub two_replaced : Models compares (record { tables = T'; size = s.size; places = slice_set (slice_set s.places p x) o y; stock = S' }) (slice_set (slice_set bs p b) o b')
+    two_replaced = record {
+      sized = beside_sized s.tables T' s.stock (λ z. uses z (book_in bs p)) d.beside m.sized;
+      size_is = m.size_is ∙ sym d.beside.heads_len;
+      fits = λ z. d.balanced.size ∙ m.fits z;
+      sixteen = sixteen (slice_set bs p b) o b' (sixteen bs p b m.sixteen);
+      held = λ q z. go q z (cases_eq q o) (cases_eq q p);
+      numbers = λ z. omega (arith, replaced (uses z) bs p b here, replaced (uses z) (slice_set bs p b) o b' there_too, m.numbers z, d.balanced.marks z, ap (uses z) (elsewhere bs p o b (λ e. n (sym e)) ∙ none));
+    }
+      where
+        here : p < length bs
+        here = subst (λ i. p < i) (sym m.sixteen) l
+
+        there_too : o < length (slice_set bs p b)
+        there_too = subst (λ i. o < i) (sym (sixteen bs p b m.sixteen)) k
+
+        long : length (slice_set s.places p x) ≡ 16
+        long = length-set s.places p x ∙ len
+
+        at : ℕ → Type 0
+        at q = BookAt compares T' (place_in (slice_set (slice_set s.places p x) o y) q) (book_in (slice_set (slice_set bs p b) o b') q)
+
+        apart : (q : ℕ) → q ≢ o → BookAt compares T' (place_in (slice_set s.places p x) q) (book_in (slice_set bs p b) q) → at q
+        apart q e a =
+            subst (λ c. BookAt compares T' c (book_in (slice_set (slice_set bs p b) o b') q)) (sym (get_or-set_other (slice_set s.places p x) o q y P.Bare e))
+            (subst (λ c. BookAt compares T' (place_in (slice_set s.places p x) q) c) (sym (elsewhere (slice_set bs p b) o q b' e)) a)
+
+        go : (q : ℕ) → q < 16 → (q ≡ o) ⊎ (q ≢ o) → (q ≡ p) ⊎ (q ≢ p) → at q
+        go q z (inl e) w = subst at (sym e)
+            (subst (λ c. BookAt compares T' c (book_in (slice_set (slice_set bs p b) o b') o)) (sym (get_or-set_same (slice_set s.places p x) o y P.Bare (subst (λ i. o < i) (sym long) k)))
+            (subst (λ c. BookAt compares T' y c) (sym (there (slice_set bs p b) o b' there_too)) d.goes))
+        go q z (inr e) (inl e') = subst at (sym e') (apart p n
+            (subst (λ c. BookAt compares T' c (book_in (slice_set bs p b) p)) (sym (get_or-set_same s.places p x P.Bare (subst (λ i. p < i) (sym len) l)))
+            (subst (λ c. BookAt compares T' x c) (sym (there bs p b here)) d.stays)))
+        go q z (inr e) (inr e') = apart q e
+            (subst (λ c. BookAt compares T' c (book_in (slice_set bs p b) q)) (sym (get_or-set_other s.places p q x P.Bare e'))
+            (subst (λ c. BookAt compares T' (place_in s.places q) c) (sym (elsewhere bs p q b e'))
+            (book_beside compares s.tables T' s.stock (λ i. uses i (book_in bs p)) d.beside (place_in s.places q) (book_in bs q)
+            (λ i. omega (arith, uses_two bs p q i here (subst (λ j. q < j) (sym m.sixteen) z) e', m.numbers i)) (m.held q z))))

@@ -24,7 +24,7 @@ use Rattle.books.proofs.Running.{sound_low, runs_stand}
 use Rattle.acts.specs.Acts.{Becomes, Halves}
 use Rattle.bank.specs.Calls.{Fit, Met}
 use Rattle.bank.specs.Gate.{kinds}
-use Rattle.bank.proofs.Keepings.{all_sound, kind_same, one_replaced}
+use Rattle.bank.proofs.Keepings.{all_sound, kind_same, one_replaced, two_replaced}
 
 -- ---- the checks, by places and by books
 
@@ -101,3 +101,18 @@ module _ {K V : Type 0} {compares : K → K → Ordering} (ordered : Ordered com
   pub met_declined : (s' : State K V) → s' ≡ s → (p : ℕ) (fresh : ℕ → ℕ) (top : ℕ) (o : Part K V) → act compares fresh top s.stock.allowance c bs ≡ placed p bs o → (e : Code) → o ≡ (Err e, book_in bs p) → Met compares c s s' (Err e) bs
   met_declined s' z p fresh top o by e q =
       met_same s' z fresh top (Err e) (by ∙ ap (placed p bs) q ∙ ap (outcome (Err e)) (again bs p (book_in bs p) refl))
+
+  -- the books of two places are replaced
+  pub met_two : (p o : ℕ) → p < 16 → o < 16 → p ≢ o → length s.places ≡ 16 → book_in bs o ≡ bare → (fresh : ℕ → ℕ) (top : ℕ) (q : Parts K V) → act compares fresh top s.stock.allowance c bs ≡ parted p o bs q
+      → (T' : Tables K V) (S' : Stock) (stays goes : Place) (x : Answer K V) → q.0 ≡ Ok x → Halves compares s.tables T' s.stock S' (book_in bs p) stays goes (q.1).0 (q.1).1
+      → Met compares c s (record { tables = T'; size = s.size; places = slice_set (slice_set s.places p stays) o goes; stock = S' }) (Ok x) bs
+  met_two p o l k n len none fresh top q by T' S' stays goes x z d =
+      met_by (record { tables = T'; size = s.size; places = slice_set (slice_set s.places p stays) o goes; stock = S' }) (Ok x) (slice_set (slice_set bs p (q.1).0) o (q.1).1)
+      (two_replaced compares s bs m T' S' p o l k n len none stays goes (q.1).0 (q.1).1 d) fresh top
+      (ap (λ r. outcome r (slice_set (slice_set bs p (q.1).0) o (q.1).1)) (sym z) ∙ sym by) d.balanced.size d.balanced.allowance (λ e y. absurd (ok_err x e y))
+
+  pub met_undivided : (s' : State K V) → s' ≡ s → (p o : ℕ) → p ≢ o → book_in bs o ≡ bare → (fresh : ℕ → ℕ) (top : ℕ) (q : Parts K V) → act compares fresh top s.stock.allowance c bs ≡ parted p o bs q → (e : Code) → q ≡ (Err e, (book_in bs p, bare))
+      → Met compares c s s' (Err e) bs
+  met_undivided s' z p o n none fresh top q by e w =
+      met_same s' z fresh top (Err e)
+      (by ∙ ap (parted p o bs) w ∙ ap (λ b. outcome (Err e) (slice_set b o bare)) (again bs p (book_in bs p) refl) ∙ ap (outcome (Err e)) (again bs o bare (sym none)))

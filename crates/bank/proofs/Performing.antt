@@ -13,20 +13,23 @@ use Rattle.books.specs.declared.refusals.Refusal.{Refusal}
 use Rattle.books.specs.declared.calls.Answer.{Answer}
 use Rattle.books.specs.declared.calls.Answer.TheVariants.{Inserted, Found, Counted, Parted, Opened, Handed, Dropped, Audited}
 use Rattle.books.specs.declared.calls.Call.TheVariants.{Insert, Lookup, Count, Cut, Open, Step, Close, Release, Audit}
-use Rattle.books.specs.Books.{Book, book_in}
+use Rattle.node.specs.declared.ends.Side.{Side}
+use Rattle.walk.specs.declared.walks.Walk.{Walk}
+use Rattle.books.specs.declared.places.Place.TheVariants as P
+use Rattle.books.specs.Books.{Book, bare, planted, walked, idle, entries, book_in, BookAt}
 use Rattle.books.specs.Faults.{fault_code}
 use Rattle.books.specs.Places.{place_in}
 use Rattle.books.specs.Refusals.{Code, code}
-use Rattle.books.specs.Rules.{Asked, Kind, Part, placed, act, check, check_one, kind_of, is_map, insert_in}
+use Rattle.books.specs.Rules.{Asked as Call, Query, Kind, outcome, check, check_one, check_two, kind_of, is_map, is_walk, is_bare, insert_in, cut_in, open_in, step_in, drop_in}
 use Rattle.books.specs.States.{State, Models}
-use Rattle.books.proofs.Placing.{one_passes}
-use Rattle.acts.specs.Acts.{Ready, Becomes, Acts, InsertsBy, InsertsIn}
-use Rattle.bank.specs.Calls.{Fit, told, Met, Reads, Asks, Audits, Performs}
+use Rattle.books.proofs.Placing.{one_passes, Two, two_pass, bare_is}
+use Rattle.acts.specs.Acts.{Ready, found, counts, InsertsIn, LooksIn, CutsIn, OpensIn, StepsIn, ClosesIn, ReleasesIn}
+use Rattle.bank.specs.Calls.{Fit, Met, Reads, Asks, Audits, Performs, count_at}
 use Rattle.bank.specs.Gate.{Fits, kinds}
 use Rattle.bank.proofs.Keepings.{ready_at, kind_same}
-use Rattle.bank.proofs.Meetings.{met_one, met_same, met_declined}
+use Rattle.bank.proofs.Meetings.{met_one, met_two, met_same, met_declined, met_undivided}
 
-module _ {K V : Type 0} (compares : K → K → Ordering) (c : Asked K V) (s s' : State K V) (fit : Fit s) (pass : check (kinds s.places) c ≡ None) (r : Result (Answer K V) Code) where
+module _ {K V : Type 0} (compares : K → K → Ordering) (c : Call K V) (s s' : State K V) (fit : Fit s) (pass : check (kinds s.places) c ≡ None) (r : Result (Answer K V) Code) where
   -- a call that passed the checks
   pub passed : s'.size ≡ s.size → (Reads c ≡ true → s'.tables ≡ s.tables) → (Asks c ≡ true → s' ≡ s) → Audits c ≡ false → ((bs : List (Book (K × V))) → Models compares s bs → Met compares c s s' r bs) → Performs compares c s s' r
   passed size reads asks none meets = record {
@@ -49,30 +52,178 @@ module _ {K V : Type 0} {compares : K → K → Ordering} (ordered : Ordered com
       let o = one_passes (kinds s.places) f p q in
       subst (λ k. f k ≡ true) (sym (kind_same compares s.tables (place_in s.places p) (book_in bs p) (m.held p o.low))) o.kind
 
-  module _ (p : ℕ) (k : K) (v : V) (T' : Tables K V) (S' : Stock) (q : check_one (kinds s.places) is_map p ≡ None) (here : Place) (h : here ≡ place_in s.places p) (len : length s.places ≡ 16) where
+  module _ (T' : Tables K V) (S' : Stock) where
+    -- the state with other tables and another supply, and places as they were
+    abbrev pub with_places : List Place → State K V
+    with_places ps = record { tables = T'; size = s.size; places = ps; stock = S' }
+
+    same_state : Unchanged s.tables T' s.stock S' → with_places s.places ≡ s
+    same_state u = ap (λ T. record { tables = T; size = s.size; places = s.places; stock = S' }) u.tables_same ∙ ap (λ S. record { tables = s.tables; size = s.size; places = s.places; stock = S }) u.stock_same
+
+  -- a place, as a question for it answered it
+  pub record Asked (f : Kind → Bool) (p : ℕ) (here : Place) : Type 0 where
+    pub pass : check_one (kinds s.places) f p ≡ None
+    pub is : here ≡ place_in s.places p
+    pub long : length s.places ≡ 16
+
+  pub asked_of : (f : Kind → Bool) (p : ℕ) (here : Place) → (check_one (kinds s.places) f p ≡ None) × (here ≡ place_in s.places p) × (length s.places ≡ 16) → Asked f p here
+  asked_of f p here w = record { pass = w.0; is = w.1; long = w.2 }
+
+  module _ (f : Kind → Bool) (p : ℕ) (here : Place) (w : Asked f p here) where
+    low : p < 16
+    low = (one_passes (kinds s.places) f p w.pass).low
+
+    ready : (bs : List (Book (K × V))) → Models compares s bs → Ready compares s.tables s.stock here (book_in bs p)
+    ready bs m = subst (λ x. Ready compares s.tables s.stock x (book_in bs p)) (sym w.is) (ready_at compares s bs m some p low)
+
+    kind : (bs : List (Book (K × V))) → Models compares s bs → f (kind_of (book_in bs p)) ≡ true
+    kind bs m = book_kind f p w.pass bs m
+
+  module _ (p : ℕ) (k : K) (v : V) (T' : Tables K V) (S' : Stock) (here : Place) (w : Asked is_map p here) where
     pub inserted_done : (after : Place) (old : Option V) → InsertsIn compares s.tables T' s.stock S' here (k, v) (Ok (after, old))
-        → Performs compares (Insert p k v) s (record { tables = T'; size = s.size; places = slice_set s.places p after; stock = S' }) (Ok (Inserted old))
+        → Performs compares (Insert p k v) s (with_places T' S' (slice_set s.places p after)) (Ok (Inserted old))
     unfolding InsertsIn
     inserted_done after old i =
-        passed compares (Insert p k v) s (record { tables = T'; size = s.size; places = slice_set s.places p after; stock = S' }) fit q (Ok (Inserted old)) refl (λ n. absurd (false≢true n)) (λ n. absurd (false≢true n)) refl
+        passed compares (Insert p k v) s _ fit w.pass (Ok (Inserted old)) refl (λ n. absurd (false≢true n)) (λ n. absurd (false≢true n)) refl
         (λ bs m.
-        let l = (one_passes (kinds s.places) is_map p q).low in
-        let d = i (book_in bs p) (subst (λ x. Ready compares s.tables s.stock x (book_in bs p)) (sym h) (ready_at compares s bs m some p l)) (book_kind is_map p q bs m) in
-        met_one ordered s (Insert p k v) q bs m p l len d.fresh d.top (insert_in compares d.fresh d.top s.stock.allowance (k, v) (book_in bs p)) refl T' S' after (Inserted old) d.acts.0 d.acts.1)
+        let d = i (book_in bs p) (ready is_map p here w bs m) (kind is_map p here w bs m) in
+        met_one ordered s (Insert p k v) w.pass bs m p (low is_map p here w) w.long d.fresh d.top (insert_in compares d.fresh d.top s.stock.allowance (k, v) (book_in bs p)) refl T' S' after (Inserted old) d.acts.0 d.acts.1)
 
-    pub inserted_not : (f : Fault) (e : Code) → e ≡ fault_code f → InsertsIn compares s.tables T' s.stock S' here (k, v) (Err f)
-        → Performs compares (Insert p k v) s (record { tables = T'; size = s.size; places = s.places; stock = S' }) (Err e)
+    pub inserted_not : (f : Fault) (e : Code) → e ≡ fault_code f → InsertsIn compares s.tables T' s.stock S' here (k, v) (Err f) → Performs compares (Insert p k v) s (with_places T' S' s.places) (Err e)
     unfolding InsertsIn
     inserted_not f e z i =
-        passed compares (Insert p k v) s (record { tables = T'; size = s.size; places = s.places; stock = S' }) fit q (Err e) refl (λ n. absurd (false≢true n)) (λ n. absurd (false≢true n)) refl
+        passed compares (Insert p k v) s _ fit w.pass (Err e) refl (λ n. absurd (false≢true n)) (λ n. absurd (false≢true n)) refl
         (λ bs m.
-        let l = (one_passes (kinds s.places) is_map p q).low in
-        let d = i (book_in bs p) (subst (λ x. Ready compares s.tables s.stock x (book_in bs p)) (sym h) (ready_at compares s bs m some p l)) (book_kind is_map p q bs m) in
-        met_declined ordered s (Insert p k v) q bs m (record { tables = T'; size = s.size; places = s.places; stock = S' }) (same_state s T' S' d.acts.1) p d.fresh d.top
+        let d = i (book_in bs p) (ready is_map p here w bs m) (kind is_map p here w bs m) in
+        met_declined ordered s (Insert p k v) w.pass bs m _ (same_state T' S' d.acts.1) p d.fresh d.top
         (insert_in compares d.fresh d.top s.stock.allowance (k, v) (book_in bs p)) refl e (d.acts.0 ∙ ap (λ y. (Err y, book_in bs p)) (sym z)))
-      where
-        same_state : (s : State K V) (T' : Tables K V) (S' : Stock) → Unchanged s.tables T' s.stock S' → (record { tables = T'; size = s.size; places = s.places; stock = S' }) ≡ s
-        same_state s T' S' u = ap (λ T. record { tables = T; size = s.size; places = s.places; stock = S' }) u.tables_same ∙ ap (λ S. record { tables = s.tables; size = s.size; places = s.places; stock = S }) u.stock_same
+
+  module _ (p : ℕ) (place : Query K) (here : Place) (w : Asked is_map p here) where
+    pub looked_done : (y : Option V × ℕ) → LooksIn compares s.tables here place (Ok y) → Performs compares (Lookup p place) s s (Ok (found y))
+    unfolding LooksIn
+    looked_done y i =
+        passed compares (Lookup p place) s s fit w.pass (Ok (found y)) refl (λ _. refl) (λ _. refl) refl
+        (λ bs m.
+        met_same ordered s (Lookup p place) w.pass bs m s refl (λ _. 0) 0 (Ok (found y)) (ap (λ r. outcome r bs) (i s.stock (book_in bs p) (ready is_map p here w bs m) (kind is_map p here w bs m))))
+
+    pub looked_not : (f : Fault) (e : Code) → LooksIn compares s.tables here place (Err f) → Performs compares (Lookup p place) s s (Err e)
+    unfolding LooksIn
+    looked_not f e i =
+        passed compares (Lookup p place) s s fit w.pass (Err e) refl (λ _. refl) (λ _. refl) refl
+        (λ bs m. absurd (i s.stock (book_in bs p) (ready is_map p here w bs m) (kind is_map p here w bs m)))
+
+  count_same : (T : Tables K V) (x : Place) (b : Book (K × V)) → BookAt compares T x b → count_at x ≡ length (entries b)
+  count_same T P.Bare bare a = refl
+  count_same T (P.Tree root count) bare a = absurd a
+  count_same T (P.Walk w) bare a = absurd a
+  count_same T P.Bare (planted h t) a = absurd a
+  count_same T (P.Tree root count) (planted h t) a = a.count_is
+  count_same T (P.Walk w) (planted h t) a = absurd a
+  count_same T P.Bare (walked h t) a = absurd a
+  count_same T (P.Tree root count) (walked h t) a = absurd a
+  count_same T (P.Walk w) (walked h t) a = a.count_is
+  count_same T P.Bare idle a = absurd a
+  count_same T (P.Tree root count) idle a = absurd a
+  count_same T (P.Walk w) idle a = ap (λ u. u.left) a
+
+  pub counted_done : (p : ℕ) (here : Place) → Asked (λ _. true) p here → (n : ℕ) → n ≡ count_at here → Performs compares (Count p) s s (Ok (Counted n))
+  counted_done p here w n q =
+      passed compares (Count p) s s fit w.pass (Ok (Counted n)) refl (λ _. refl) (λ _. refl) refl
+      (λ bs m.
+      met_same ordered s (Count p) w.pass bs m s refl (λ _. 0) 0 (Ok (Counted n))
+      (ap (λ k. outcome (Ok (Counted k)) bs) (sym (q ∙ count_same s.tables here (book_in bs p) (ready (λ _. true) p here w bs m).at))))
+
+  module _ (p o : ℕ) (place : Query K) (T' : Tables K V) (S' : Stock) (here : Place) (pass : check_two (kinds s.places) p o ≡ None) (h : here ≡ place_in s.places p) (long : length s.places ≡ 16) where
+    passes : Two (kinds s.places) p o
+    passes = two_pass (kinds s.places) p o pass
+
+    cut_ready : (bs : List (Book (K × V))) → Models compares s bs → Ready compares s.tables s.stock here (book_in bs p)
+    cut_ready bs m = subst (λ x. Ready compares s.tables s.stock x (book_in bs p)) (sym h) (ready_at compares s bs m some p passes.low)
+
+    cut_kind : (bs : List (Book (K × V))) → Models compares s bs → is_map (kind_of (book_in bs p)) ≡ true
+    cut_kind bs m = subst (λ k. is_map k ≡ true) (sym (kind_same compares s.tables (place_in s.places p) (book_in bs p) (m.held p passes.low))) passes.kind
+
+    second_bare : (bs : List (Book (K × V))) → Models compares s bs → book_in bs o ≡ bare
+    second_bare bs m = bare_is (book_in bs o) (subst (λ k. is_bare k ≡ true) (sym (kind_same compares s.tables (place_in s.places o) (book_in bs o) (m.held o passes.low'))) passes.kind')
+
+    pub cut_done : (stays goes : Place) (n : ℕ × ℕ × ℕ) → CutsIn compares s.tables T' s.stock S' here place (Ok (stays, goes, n))
+        → Performs compares (Cut p o place) s (with_places T' S' (slice_set (slice_set s.places p stays) o goes)) (Ok (counts n))
+    unfolding CutsIn
+    cut_done stays goes n i =
+        passed compares (Cut p o place) s _ fit pass (Ok (counts n)) refl (λ n. absurd (false≢true n)) (λ n. absurd (false≢true n)) refl
+        (λ bs m.
+        let d = i (book_in bs p) (cut_ready bs m) (cut_kind bs m) in
+        met_two ordered s (Cut p o place) pass bs m p o passes.low passes.low' passes.apart long (second_bare bs m) d.fresh 0 (cut_in d.fresh s.stock.allowance place (book_in bs p)) refl T' S' stays goes (counts n) d.acts.0 d.acts.1)
+
+    pub cut_not : (f : Fault) (e : Code) → e ≡ fault_code f → CutsIn compares s.tables T' s.stock S' here place (Err f) → Performs compares (Cut p o place) s (with_places T' S' s.places) (Err e)
+    unfolding CutsIn
+    cut_not f e z i =
+        passed compares (Cut p o place) s _ fit pass (Err e) refl (λ n. absurd (false≢true n)) (λ n. absurd (false≢true n)) refl
+        (λ bs m.
+        let d = i (book_in bs p) (cut_ready bs m) (cut_kind bs m) in
+        met_undivided ordered s (Cut p o place) pass bs m _ (same_state T' S' d.acts.1) p o passes.apart (second_bare bs m) d.fresh 0
+        (cut_in d.fresh s.stock.allowance place (book_in bs p)) refl e (d.acts.0 ∙ ap (λ y. (Err y, (book_in bs p, bare))) (sym z)))
+
+  module _ (p : ℕ) (here : Place) (w : Asked is_map p here) where
+    pub opened_done : (after : Place) → OpensIn compares s.tables s.stock here (Ok after) → Performs compares (Open p) s (with_places s.tables s.stock (slice_set s.places p after)) (Ok Opened)
+    unfolding OpensIn
+    opened_done after i =
+        passed compares (Open p) s _ fit w.pass (Ok Opened) refl (λ _. refl) (λ n. absurd (false≢true n)) refl
+        (λ bs m.
+        let d = i (book_in bs p) (ready is_map p here w bs m) (kind is_map p here w bs m) in
+        met_one ordered s (Open p) w.pass bs m p (low is_map p here w) w.long (λ _. 0) 0 (open_in (book_in bs p)) refl s.tables s.stock after Opened d.0 d.1)
+
+    pub opened_not : (f : Fault) (e : Code) → OpensIn compares s.tables s.stock here (Err f) → Performs compares (Open p) s s (Err e)
+    unfolding OpensIn
+    opened_not f e i =
+        passed compares (Open p) s s fit w.pass (Err e) refl (λ _. refl) (λ n. absurd (false≢true n)) refl
+        (λ bs m. absurd (i (book_in bs p) (ready is_map p here w bs m) (kind is_map p here w bs m)))
+
+    pub released_done : (S' : Stock) (n : ℕ) → ReleasesIn compares s.tables s.stock S' here (Ok n) → Performs compares (Release p) s (with_places s.tables S' (slice_set s.places p P.Bare)) (Ok (Dropped n))
+    unfolding ReleasesIn
+    released_done S' n i =
+        passed compares (Release p) s _ fit w.pass (Ok (Dropped n)) refl (λ _. refl) (λ n. absurd (false≢true n)) refl
+        (λ bs m.
+        let d = i (book_in bs p) (ready is_map p here w bs m) (kind is_map p here w bs m) in
+        met_one ordered s (Release p) w.pass bs m p (low is_map p here w) w.long (λ _. 0) 0 (drop_in (book_in bs p)) refl s.tables S' P.Bare (Dropped n) d.0 d.1)
+
+    pub released_not : (S' : Stock) (f : Fault) (e : Code) → ReleasesIn compares s.tables s.stock S' here (Err f) → Performs compares (Release p) s (with_places s.tables S' s.places) (Err e)
+    unfolding ReleasesIn
+    released_not S' f e i =
+        passed compares (Release p) s _ fit w.pass (Err e) refl (λ _. refl) (λ n. absurd (false≢true n)) refl
+        (λ bs m. absurd (i (book_in bs p) (ready is_map p here w bs m) (kind is_map p here w bs m)))
+
+  module _ (p : ℕ) (u : Walk) (w : Asked is_walk p (P.Walk u)) where
+    pub stepped_done : (d : Side) (S' : Stock) (after : Place) (x : Option (K × V)) → StepsIn compares s.tables s.stock S' u d (Ok (after, x))
+        → Performs compares (Step p d) s (with_places s.tables S' (slice_set s.places p after)) (Ok (Handed x))
+    unfolding StepsIn
+    stepped_done d S' after x i =
+        passed compares (Step p d) s _ fit w.pass (Ok (Handed x)) refl (λ _. refl) (λ n. absurd (false≢true n)) refl
+        (λ bs m.
+        let a = i (book_in bs p) (ready is_walk p (P.Walk u) w bs m) in
+        met_one ordered s (Step p d) w.pass bs m p (low is_walk p (P.Walk u) w) w.long (λ _. 0) 0 (step_in d (book_in bs p)) refl s.tables S' after (Handed x) a.0 a.1)
+
+    pub stepped_not : (d : Side) (S' : Stock) (f : Fault) (e : Code) → e ≡ fault_code f → StepsIn compares s.tables s.stock S' u d (Err f) → Performs compares (Step p d) s (with_places s.tables S' s.places) (Err e)
+    unfolding StepsIn
+    stepped_not d S' f e z i =
+        passed compares (Step p d) s _ fit w.pass (Err e) refl (λ _. refl) (λ n. absurd (false≢true n)) refl
+        (λ bs m.
+        let a = i (book_in bs p) (ready is_walk p (P.Walk u) w bs m) in
+        met_declined ordered s (Step p d) w.pass bs m _ (same_state s.tables S' a.1) p (λ _. 0) 0 (step_in d (book_in bs p)) refl e (a.0 ∙ ap (λ y. (Err y, book_in bs p)) (sym z)))
+
+    pub closed_done : (S' : Stock) (n : ℕ) → ClosesIn compares s.tables s.stock S' u (Ok n) → Performs compares (Close p) s (with_places s.tables S' (slice_set s.places p P.Bare)) (Ok (Dropped n))
+    unfolding ClosesIn
+    closed_done S' n i =
+        passed compares (Close p) s _ fit w.pass (Ok (Dropped n)) refl (λ _. refl) (λ n. absurd (false≢true n)) refl
+        (λ bs m.
+        let d = i (book_in bs p) (ready is_walk p (P.Walk u) w bs m) in
+        met_one ordered s (Close p) w.pass bs m p (low is_walk p (P.Walk u) w) w.long (λ _. 0) 0 (drop_in (book_in bs p)) refl s.tables S' P.Bare (Dropped n) d.0 d.1)
+
+    pub closed_not : (S' : Stock) (f : Fault) (e : Code) → ClosesIn compares s.tables s.stock S' u (Err f) → Performs compares (Close p) s (with_places s.tables S' s.places) (Err e)
+    unfolding ClosesIn
+    closed_not S' f e i =
+        passed compares (Close p) s _ fit w.pass (Err e) refl (λ _. refl) (λ n. absurd (false≢true n)) refl
+        (λ bs m. absurd (i (book_in bs p) (ready is_walk p (P.Walk u) w bs m)))
 
 pub fit_of : {K V : Type 0} (s : State K V) → Fits (length s.tables.heads) (length s.tables.keys) (length s.tables.values) × (s.size ≡ length s.tables.heads) → Fit s
 fit_of s w = record { fits = w.0; size_is = w.1 }

@@ -10,8 +10,10 @@
 use Rattle.std.specs.Prelude.{◌≡◌, ℕ, ◌<◌, Bool, true, false, Decides, List, [], ◌∷◌, length, Some, None, Ok, Err, Result}
 use Rattle.std.specs.declared.cmp.Ordering.{Ordering}
 use Rattle.node.specs.Store.{Tables, Sized}
+use Rattle.books.specs.declared.places.Place.{Place}
+use Rattle.books.specs.declared.places.Place.TheVariants as P
 use Rattle.books.specs.declared.calls.Answer.{Answer}
-use Rattle.books.specs.declared.calls.Answer.TheVariants.{Audited}
+use Rattle.books.specs.declared.calls.Answer.TheVariants.{Audited, Opened}
 use Rattle.books.specs.declared.calls.Call.TheVariants.{Insert, Lookup, Count, Cut, Open, Step, Close, Release, Audit}
 use Rattle.books.specs.declared.refusals.Refusal.{Refusal}
 use Rattle.books.specs.Books.{Book}
@@ -29,6 +31,15 @@ pub record Fit {K V : Type 0} (s : State K V) : Type 0 where
 abbrev pub told : {K V X : Type 0} → (X → Answer K V) → Result X Refusal → Result (Answer K V) Code
 told f (Ok x) = Ok (f x)
 told f (Err e) = Err (code e)
+
+abbrev pub opened : {K V : Type 0} → Unit {0} → Answer K V
+opened u = Opened
+
+-- how many entries a place says that it has
+abbrev pub count_at : Place → ℕ
+count_at P.Bare = 0
+count_at (P.Tree root count) = count
+count_at (P.Walk w) = w.left
 
 pub record Met {K V : Type 0} (compares : K → K → Ordering) (c : Asked K V) (s s' : State K V) (r : Result (Answer K V) Code) (bs : List (Book (K × V))) : Type 0 where
   pub books : List (Book (K × V))

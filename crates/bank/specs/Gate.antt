@@ -1,13 +1,15 @@
 -- What is checked before a call does anything.
 --   Fits n k v       tables of n heads, k keys and v values fit together
 --   kinds ps p       what kind of thing stands in place p
---   Admits, Permits  a place is answered where the call passes the checks of places; else the refusal that they say
+--   Admits, AdmitsWalk, Permits    a place is answered where the call passes the checks of places; else the refusal that they say
 use Rattle.std.specs.Prelude.{◌≡◌, ℕ, ◌*◌, ◌<◌, ◌≤◌, List, length, Some, None, Result, MatchResult}
+use Rattle.walk.specs.declared.walks.Walk.{Walk}
 use Rattle.books.specs.declared.places.Place.{Place}
+use Rattle.books.specs.declared.places.Place.TheVariants as P
 use Rattle.books.specs.declared.refusals.Refusal.{Refusal}
 use Rattle.books.specs.Places.{place_in}
 use Rattle.books.specs.Refusals.{code}
-use Rattle.books.specs.Rules.{Kind, kind_at, check_one, check_two}
+use Rattle.books.specs.Rules.{Kind, kind_at, is_walk, check_one, check_two}
 use Rattle.bank.specs.declared.gate.CallKind.{CallKind}
 use Rattle.bank.specs.Kinds.{allowed}
 
@@ -22,6 +24,11 @@ kinds ps p = kind_at (place_in ps p)
 
 abbrev pub Admits : List Place → CallKind → ℕ → Result Place Refusal → Type 0
 Admits ps call p r = MatchResult r (λ x. (check_one (kinds ps) (allowed call) p ≡ None) × (x ≡ place_in ps p) × (length ps ≡ 16)) (λ e. check_one (kinds ps) (allowed call) p ≡ Some (code e))
+
+-- of a call that only a walk allows
+abbrev pub AdmitsWalk : List Place → CallKind → ℕ → Result Walk Refusal → Type 0
+AdmitsWalk ps call p r =
+    allowed call ≡ is_walk → MatchResult r (λ w. (check_one (kinds ps) is_walk p ≡ None) × (P.Walk w ≡ place_in ps p) × (length ps ≡ 16)) (λ e. check_one (kinds ps) is_walk p ≡ Some (code e))
 
 abbrev pub Permits : List Place → ℕ → ℕ → Result Place Refusal → Type 0
 Permits ps p o r = MatchResult r (λ x. (check_two (kinds ps) p o ≡ None) × (x ≡ place_in ps p) × (length ps ≡ 16)) (λ e. check_two (kinds ps) p o ≡ Some (code e))

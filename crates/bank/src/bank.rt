@@ -1,8 +1,10 @@
 //! The bank, and its calls.
 
-use crate::gate::{CallKind, admit, admit_cut, fit};
+use crate::gate::{CallKind, admit, admit_cut, admit_walk, fit};
+use acts::cutting::cut_in;
 use acts::inserting::insert_in;
 use acts::looking::lookup_in;
+use acts::walking::{close_in, open_in, release_in, step_in};
 use books::places::{Place, Register};
 use books::refusals::Refusal;
 use node::ends::Side;
@@ -10,6 +12,20 @@ use node::head::Head;
 use node::tables::Tables;
 use order::keys::{KeyOrder, Placing, PointQuery, Query};
 use supply::Supply;
+
+ghost use Rattle.std.specs.Prelude.{◌≡◌};
+ghost use Rattle.bank.specs.Calls.{count_at};
+
+/// How many entries a place has.
+fn count_in(place: Place) -> usize
+    ensures { result ≡ count_at place }
+{
+    match place {
+        Place::Bare => 0,
+        Place::Tree { count, .. } => count,
+        Place::Walk(walk) => walk.left,
+    }
+}
 
 /// Sixteen ordered books over one supply of nodes. Their nodes stand in tables of the caller, who passes them to every call.
 #[derive(Drop)]
@@ -25,7 +41,9 @@ impl<S: Supply> Bank<S> {
     ghost use Rattle.books.specs.declared.calls.Call.TheVariants as Call;
     ghost use Rattle.books.specs.declared.calls.Answer.TheVariants as Answer;
     ghost use Rattle.bank.specs.Banks.{state_of};
-    ghost use Rattle.bank.specs.Calls.{told, Performs};
+    ghost use Rattle.node.specs.declared.ends.Side.TheVariants as Side;
+    ghost use Rattle.acts.specs.Acts.{found, counts};
+    ghost use Rattle.bank.specs.Calls.{told, opened, Performs};
     ghost use Rattle.bank.specs.Fitting.{FitsBank};
 
     /// Refuses tables that do not fit together, or are not of the bank's size.
@@ -56,5 +74,177 @@ impl<S: Supply> Bank<S> {
         let (after, old) = insert_in(heads, keys, values, &mut self.supply, here, key, value)?;
         self.register.set(place, after);
         Ok(old)
+    }
+
+    /// The value under the key that is the same as the query, in a bare place or a tree, and the comparisons made.
+    pub fn lookup<K: KeyOrder, V: Copy, Q: PointQuery<K>>(
+        &self,
+        heads: &[Head],
+        keys: &[K],
+        values: &[V],
+        place: usize,
+        query: &Q,
+    ) -> Result<(Option<V>, usize), Refusal>
+        ensures { Performs K.KeyOrder.compares (Call.Lookup place (Q.Placing.places query.now)) (state_of S.stock self.now (tables heads.now keys.now values.now)) (state_of S.stock self.now (tables heads.now keys.now values.now)) (told found result) }
+    {
+        self.fit(heads.len(), keys.len(), values.len())?;
+        let here = admit(&self.register, place, CallKind::Lookup)?;
+        let tables = Tables {
+            heads,
+            keys,
+            values,
+        };
+        Ok(lookup_in(&tables, here, query)?)
+    }
+
+    /// How many entries a place has, or a walk has left.
+    pub fn count<K: KeyOrder, V>(
+        &self,
+        heads: &[Head],
+        keys: &[K],
+        values: &[V],
+        place: usize,
+    ) -> Result<usize, Refusal>
+        ensures { Performs K.KeyOrder.compares (Call.Count place) (state_of S.stock self.now (tables heads.now keys.now values.now)) (state_of S.stock self.now (tables heads.now keys.now values.now)) (told Answer.Counted result) }
+    {
+        self.fit(heads.len(), keys.len(), values.len())?;
+        let here = admit(&self.register, place, CallKind::Count)?;
+        Ok(count_in(here))
+    }
+
+    /// Cuts a bare place or a tree at a query: what is below it stays, and the rest goes to the bare place `other`. Answers the entries left,
+    /// the entries right and the comparisons made.
+    pub fn cut<K: KeyOrder, V: Copy, Q: Query<K>>(
+        &mut self,
+        heads: &mut [Head],
+        keys: &mut [K],
+        values: &mut [V],
+        place: usize,
+        other: usize,
+        query: &Q,
+    ) -> Result<(usize, usize, usize), Refusal>
+        ensures { Performs K.KeyOrder.compares (Call.Cut place other (Q.Placing.places query.now)) (state_of S.stock self.old (tables heads.old keys.old values.old)) (state_of S.stock self.new (tables heads.new keys.new values.new)) (told counts result) }
+    {
+        self.fit(heads.len(), keys.len(), values.len())?;
+        let here = admit_cut(&self.register, place, other)?;
+        let (stays, goes, counts) = cut_in(heads, keys, values, &mut self.supply, here, query)?;
+        self.register.set(place, stays);
+        self.register.set(other, goes);
+        Ok(counts)
+    }
+
+    /// Makes a bare place or a tree a walk over all its entries.
+    pub fn open<K: KeyOrder, V>(
+        &mut self,
+        heads: &[Head],
+        keys: &[K],
+        values: &[V],
+        place: usize,
+    ) -> Result<(), Refusal>
+        ensures { Performs K.KeyOrder.compares (Call.Open place) (state_of S.stock self.old (tables heads.now keys.now values.now)) (state_of S.stock self.new (tables heads.now keys.now values.now)) (told opened result) }
+    {
+        self.fit(heads.len(), keys.len(), values.len())?;
+        let here = admit(&self.register, place, CallKind::Open)?;
+        let tables = Tables {
+            heads,
+            keys,
+            values,
+        };
+        let after = open_in(&tables, &self.supply, here)?;
+        self.register.set(place, after);
+        Ok(())
+    }
+
+    /// Hands out the entry at one end of a walk, or none where none is left. A node that is left behind goes back to the supply.
+    pub fn step<K: KeyOrder, V: Copy>(
+        &mut self,
+        heads: &[Head],
+        keys: &[K],
+        values: &[V],
+        place: usize,
+        side: Side,
+    ) -> Result<Option<(K, V)>, Refusal>
+        ensures { Performs K.KeyOrder.compares (Call.Step place side) (state_of S.stock self.old (tables heads.now keys.now values.now)) (state_of S.stock self.new (tables heads.now keys.now values.now)) (told Answer.Handed result) }
+    {
+        self.fit(heads.len(), keys.len(), values.len())?;
+        let walk = admit_walk(&self.register, place, CallKind::Step)?;
+        let tables = Tables {
+            heads,
+            keys,
+            values,
+        };
+        let (after, handed) = step_in(&tables, &mut self.supply, walk, side)?;
+        self.register.set(place, after);
+        Ok(handed)
+    }
+
+    /// Hands out the least entry left of a walk.
+    pub fn next<K: KeyOrder, V: Copy>(
+        &mut self,
+        heads: &[Head],
+        keys: &[K],
+        values: &[V],
+        place: usize,
+    ) -> Result<Option<(K, V)>, Refusal>
+        ensures { Performs K.KeyOrder.compares (Call.Step place Side.First) (state_of S.stock self.old (tables heads.now keys.now values.now)) (state_of S.stock self.new (tables heads.now keys.now values.now)) (told Answer.Handed result) }
+    {
+        self.step(heads, keys, values, place, Side::First)
+    }
+
+    /// Hands out the greatest entry left of a walk.
+    pub fn next_back<K: KeyOrder, V: Copy>(
+        &mut self,
+        heads: &[Head],
+        keys: &[K],
+        values: &[V],
+        place: usize,
+    ) -> Result<Option<(K, V)>, Refusal>
+        ensures { Performs K.KeyOrder.compares (Call.Step place Side.Last) (state_of S.stock self.old (tables heads.now keys.now values.now)) (state_of S.stock self.new (tables heads.now keys.now values.now)) (told Answer.Handed result) }
+    {
+        self.step(heads, keys, values, place, Side::Last)
+    }
+
+    /// Closes a walk: gives back its nodes, and leaves the place bare. Answers how many entries were dropped.
+    pub fn close<K: KeyOrder, V: Copy>(
+        &mut self,
+        heads: &[Head],
+        keys: &[K],
+        values: &[V],
+        place: usize,
+    ) -> Result<usize, Refusal>
+        ensures { Performs K.KeyOrder.compares (Call.Close place) (state_of S.stock self.old (tables heads.now keys.now values.now)) (state_of S.stock self.new (tables heads.now keys.now values.now)) (told Answer.Dropped result) }
+    {
+        self.fit(heads.len(), keys.len(), values.len())?;
+        let walk = admit_walk(&self.register, place, CallKind::Close)?;
+        let tables = Tables {
+            heads,
+            keys,
+            values,
+        };
+        let dropped = close_in(&tables, &mut self.supply, walk)?;
+        self.register.set(place, Place::Bare);
+        Ok(dropped)
+    }
+
+    /// Releases a bare place or a tree: gives back its nodes, and leaves the place bare. Answers how many entries were dropped.
+    pub fn release<K: KeyOrder, V: Copy>(
+        &mut self,
+        heads: &[Head],
+        keys: &[K],
+        values: &[V],
+        place: usize,
+    ) -> Result<usize, Refusal>
+        ensures { Performs K.KeyOrder.compares (Call.Release place) (state_of S.stock self.old (tables heads.now keys.now values.now)) (state_of S.stock self.new (tables heads.now keys.now values.now)) (told Answer.Dropped result) }
+    {
+        self.fit(heads.len(), keys.len(), values.len())?;
+        let here = admit(&self.register, place, CallKind::Release)?;
+        let tables = Tables {
+            heads,
+            keys,
+            values,
+        };
+        let dropped = release_in(&tables, &mut self.supply, here)?;
+        self.register.set(place, Place::Bare);
+        Ok(dropped)
     }
 }

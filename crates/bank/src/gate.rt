@@ -4,9 +4,10 @@ use books::places::{Place, Register};
 use books::refusals::Refusal;
 use node::head::CAPACITY;
 use node::tables::MOST;
+use walk::walks::Walk;
 
 ghost use Rattle.std.specs.Prelude.{◌≡◌, MatchResult};
-ghost use Rattle.bank.specs.Gate.{Fits, Admits, Permits};
+ghost use Rattle.bank.specs.Gate.{Fits, Admits, AdmitsWalk, Permits};
 ghost use Rattle.bank.specs.Kinds.{allowed};
 ghost use Rattle.books.specs.Rules.{kind_at};
 
@@ -58,6 +59,16 @@ pub(crate) fn admit(register: &Register, at: usize, call: CallKind) -> Result<Pl
         return Err(Refusal::Kind);
     }
     Ok(place)
+}
+
+/// The walk in a place, where it is one of the sixteen and allows a call of this kind: only a step or a closing is asked for here.
+pub(crate) fn admit_walk(register: &Register, at: usize, call: CallKind) -> Result<Walk, Refusal>
+    ensures { AdmitsWalk register.now.places call at result }
+{
+    let Place::Walk(walk) = admit(register, at, call)? else {
+        return Err(Refusal::Kind);
+    };
+    Ok(walk)
 }
 
 /// What stands in the first place of a cut, where the second is bare and another.

@@ -1,19 +1,24 @@
 use Rattle.std.proofs.Common.{◌≡◌, refl}
 use Rattle.std.proofs.lemmas.Result.{err_from_is_err_and}
 use Rattle.node.specs.Store.{tables}
+use Rattle.books.specs.Rules.{is_map}
 use Rattle.bank.specs.Banks.{state_of}
-use Rattle.bank.proofs.Performing.{fit_of, inserted_done, inserted_not}
+use Rattle.bank.proofs.Performing.{fit_of, asked_of, inserted_done, inserted_not}
 use Rattle.bank.proofs.bank.Bank.insert.Goals as goal
 
 pub returns-in_err-after : goal.returns-in_err-after
 returns-in_err-after g c =
     let s = state_of g.S.Supply.stock c.args.self.now (tables c.args.heads.now c.args.keys.now c.args.values.now) in
+    let o = g.met.K.KeyOrder.ordered in
+    let f = fit_of s c.in_ok-fit.ensures in
+    let w = asked_of o s f is_map c.args.place c.in_ok-here.here c.in_ok-here.ensures in
     let p = err_from_is_err_and c.from_residual-in_err-after.result c.from_residual-in_err-after.ensures.1 in
-    let a = c.in_ok-here.ensures in
-    rw (p.1) (inserted_not g.met.K.KeyOrder.ordered s (fit_of s c.in_ok-fit.ensures) c.args.place c.args.key c.args.value _ _ a.0 c.in_ok-here.here a.1 a.2 _ _ p.2 c.in_err-after.ensures)
+    rw (p.1) (inserted_not o s f c.args.place c.args.key c.args.value _ _ c.in_ok-here.here w _ _ p.2 c.in_err-after.ensures)
 
 pub returns : goal.returns
 returns g c =
     let s = state_of g.S.Supply.stock c.args.self.now (tables c.args.heads.now c.args.keys.now c.args.values.now) in
-    let a = c.in_ok-here.ensures in
-    rw (c.set.ensures) (inserted_done g.met.K.KeyOrder.ordered s (fit_of s c.in_ok-fit.ensures) c.args.place c.args.key c.args.value _ _ a.0 c.in_ok-here.here a.1 a.2 c.in_ok-after.after c.in_ok-after.old c.in_ok-after.ensures)
+    let o = g.met.K.KeyOrder.ordered in
+    let f = fit_of s c.in_ok-fit.ensures in
+    let w = asked_of o s f is_map c.args.place c.in_ok-here.here c.in_ok-here.ensures in
+    rw (c.set.ensures) (inserted_done o s f c.args.place c.args.key c.args.value _ _ c.in_ok-here.here w c.in_ok-after.after c.in_ok-after.old c.in_ok-after.ensures)
