@@ -1,3 +1,4 @@
 pub mod Keepings
 pub mod Meetings
 pub mod Performing
+pub mod Starting

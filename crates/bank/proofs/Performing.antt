@@ -1,5 +1,5 @@
 -- Each call of the bank, from its checks and what it does at its places. Assumes nothing.
-use Rattle.std.proofs.Common.{◌≡◌, ℕ, ◌+◌, ◌<◌, ◌≤◌, Bool, true, false, List, [], ◌∷◌, length, slice_set, Some, None, Ok, Err, Option, Result, refl, sym, ap, ◌∙◌, subst, arith}
+use Rattle.std.proofs.Common.{◌≡◌, ℕ, ◌+◌, ◌<◌, ◌≤◌, Bool, true, false, Decides, List, [], ◌∷◌, length, slice_set, Some, None, Ok, Err, Option, Result, refl, sym, ap, ◌∙◌, subst, arith}
 use Rattle.std.proofs.lemmas.Bool.{false≢true}
 use Rattle.std.proofs.lemmas.Option.{none-some}
 use Rattle.std.specs.declared.cmp.Ordering.{Ordering}
@@ -21,7 +21,7 @@ use Rattle.books.specs.Faults.{fault_code}
 use Rattle.books.specs.Places.{place_in}
 use Rattle.books.specs.Refusals.{Code, code}
 use Rattle.books.specs.Rules.{Asked as Call, Query, Kind, outcome, check, check_one, check_two, kind_of, is_map, is_walk, is_bare, insert_in, cut_in, open_in, step_in, drop_in}
-use Rattle.books.specs.States.{State, Models}
+use Rattle.books.specs.States.{State, Models, GoodForm}
 use Rattle.books.proofs.Placing.{one_passes, Two, two_pass, bare_is}
 use Rattle.acts.specs.Acts.{Ready, found, counts, InsertsIn, LooksIn, CutsIn, OpensIn, StepsIn, ClosesIn, ReleasesIn}
 use Rattle.bank.specs.Calls.{Fit, Met, Reads, Asks, Audits, Performs, count_at}
@@ -224,6 +224,17 @@ module _ {K V : Type 0} {compares : K → K → Ordering} (ordered : Ordered com
     closed_not S' f e i =
         passed compares (Close p) s _ fit w.pass (Err e) refl (λ _. refl) (λ n. absurd (false≢true n)) refl
         (λ bs m. absurd (i (book_in bs p) (ready is_walk p (P.Walk u) w bs m)))
+
+  pub audited_done : (b : Bool) → Decides b (GoodForm compares s) → Performs compares Audit s s (Ok (Audited b))
+  audited_done b d = record {
+    misfit = λ n. absurd (n fit);
+    refused = λ _ e q. absurd (none-some e q);
+    size = refl;
+    reads = λ _. refl;
+    asks = λ _. refl;
+    audits = λ _ _. (b, refl, d);
+    meets = λ _ q bs m. met_same ordered s Audit q bs m s refl (λ _. 0) 0 (Ok (Audited b)) (ap (λ x. outcome (Ok (Audited x)) bs) (sym (d.1 (bs, m))));
+  }
 
 pub fit_of : {K V : Type 0} (s : State K V) → Fits (length s.tables.heads) (length s.tables.keys) (length s.tables.values) × (s.size ≡ length s.tables.heads) → Fit s
 fit_of s w = record { fits = w.0; size_is = w.1 }

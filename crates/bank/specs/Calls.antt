@@ -35,6 +35,9 @@ told f (Err e) = Err (code e)
 abbrev pub opened : {K V : Type 0} → Unit {0} → Answer K V
 opened u = Opened
 
+abbrev pub itself : {K V : Type 0} → Answer K V → Answer K V
+itself x = x
+
 -- how many entries a place says that it has
 abbrev pub count_at : Place → ℕ
 count_at P.Bare = 0

@@ -3,3 +3,4 @@ pub mod Calls
 pub mod Fitting
 pub mod Gate
 pub mod Kinds
+pub mod Layout

@@ -5,6 +5,7 @@ use acts::cutting::cut_in;
 use acts::inserting::insert_in;
 use acts::looking::lookup_in;
 use acts::walking::{close_in, open_in, release_in, step_in};
+use audit::audits::audit;
 use books::places::{Place, Register};
 use books::refusals::Refusal;
 use node::ends::Side;
@@ -44,7 +45,10 @@ impl<S: Supply> Bank<S> {
     ghost use Rattle.node.specs.declared.ends.Side.TheVariants as Side;
     ghost use Rattle.acts.specs.Acts.{found, counts};
     ghost use Rattle.bank.specs.Calls.{told, opened, Performs};
-    ghost use Rattle.bank.specs.Fitting.{FitsBank};
+    ghost use Rattle.std.specs.Prelude.{Decides, replicate};
+    ghost use Rattle.books.specs.declared.places.Place.TheVariants as Place;
+    ghost use Rattle.bank.specs.Layout.{Unused, LaysOut};
+    ghost use Rattle.bank.specs.Fitting.{FitsBank, coded};
 
     /// Refuses tables that do not fit together, or are not of the bank's size.
     fn fit(&self, heads: usize, keys: usize, values: usize) -> Result<(), Refusal>
@@ -54,6 +58,49 @@ impl<S: Supply> Bank<S> {
         if self.size != heads {
             return Err(Refusal::Tables);
         }
+        Ok(())
+    }
+
+    /// Whether the supply has so many numbers, and none of them is out.
+    fn unused(&self, heads: usize) -> bool
+        ensures { Decides result (Unused heads (S.stock self.now.supply)) }
+    {
+        self.supply.size() as usize == heads && self.supply.out_count() == 0
+    }
+
+    /// A bank over a supply, without tables and with bare places: it is to be laid out first.
+    pub fn new(supply: S) -> Bank<S>
+        ensures { (result.size ≡ 0) × (result.register.places ≡ replicate 16 Place.Bare) × (S.stock result.supply ≡ S.stock supply) }
+    {
+        Bank {
+            size: 0,
+            register: Register::bare(),
+            supply,
+        }
+    }
+
+    /// The supply, to be asked.
+    pub fn supply(&self) -> &S
+        ensures { result.now ≡ self.now.supply }
+    {
+        &self.supply
+    }
+
+    /// Lays out the tables: takes over their size, and makes every place bare.
+    pub fn lay_out<K: KeyOrder, V>(
+        &mut self,
+        heads: &[Head],
+        keys: &[K],
+        values: &[V],
+    ) -> Result<(), Refusal>
+        ensures { LaysOut K.KeyOrder.compares (state_of S.stock self.old (tables heads.now keys.now values.now)) (state_of S.stock self.new (tables heads.now keys.now values.now)) (coded result) }
+    {
+        fit(heads.len(), keys.len(), values.len())?;
+        if !self.unused(heads.len()) {
+            return Err(Refusal::Supply);
+        }
+        self.size = heads.len();
+        self.register = Register::bare();
         Ok(())
     }
 
@@ -246,5 +293,23 @@ impl<S: Supply> Bank<S> {
         let dropped = release_in(&tables, &mut self.supply, here)?;
         self.register.set(place, Place::Bare);
         Ok(dropped)
+    }
+
+    /// Whether the bank is in good form.
+    pub fn audit<K: KeyOrder, V>(
+        &self,
+        heads: &[Head],
+        keys: &[K],
+        values: &[V],
+    ) -> Result<bool, Refusal>
+        ensures { Performs K.KeyOrder.compares Call.Audit (state_of S.stock self.now (tables heads.now keys.now values.now)) (state_of S.stock self.now (tables heads.now keys.now values.now)) (told Answer.Audited result) }
+    {
+        self.fit(heads.len(), keys.len(), values.len())?;
+        let tables = Tables {
+            heads,
+            keys,
+            values,
+        };
+        Ok(audit(&tables, self.size, &self.register, &self.supply))
     }
 }

@@ -3,4 +3,5 @@
 
 pub mod bank;
 mod gate;
+pub mod perform;
 

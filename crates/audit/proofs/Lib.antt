@@ -1,0 +1,11 @@
+pub mod Booked
+pub mod Climbs
+pub mod Finding
+pub mod Notes
+pub mod Orders
+pub mod Passing
+pub mod Planted
+pub mod Showing
+pub mod Placed
+pub mod Taking
+pub mod Tops

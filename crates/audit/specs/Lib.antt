@@ -1,0 +1,4 @@
+pub mod Marks
+pub mod Passes
+pub mod Runs
+pub mod Audits

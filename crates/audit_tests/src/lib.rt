@@ -1,0 +1,5 @@
+//! Tests of the audit.
+#![tactic(auto)]
+
+#[cfg(test)]
+mod banks;

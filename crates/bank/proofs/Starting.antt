@@ -1,0 +1,73 @@
+-- Laying out, from its checks. Assumes nothing.
+use Rattle.std.proofs.Common.{◌≡◌, ℕ, zero, suc, ◌+◌, ◌<◌, ◌≤◌, Bool, true, false, cond, List, [], ◌∷◌, length, replicate, get_or, slice_index_or, count_by, Ok, Err, refl, sym, ap, ◌∙◌, subst, arith}
+use Rattle.std.specs.declared.cmp.Ordering.{Ordering}
+use Rattle.supply.specs.Stocks.{Stock, size_of, outs_of, is_out, marked}
+use Rattle.supply.proofs.StockLaws.{marked_returned}
+use Rattle.node.specs.Balance.{mark}
+use Rattle.node.specs.Shape.{total}
+use Rattle.node.specs.Store.{Tables, Sized}
+use Rattle.node.proofs.Balances.{mark_unused}
+use Rattle.books.specs.declared.places.Place.TheVariants as P
+use Rattle.books.specs.Books.{Book, bare, uses, book_in, BookAt}
+use Rattle.books.specs.Places.{place_in}
+use Rattle.books.specs.Runs.{Runs}
+use Rattle.books.specs.States.{State, Models}
+use Rattle.bank.specs.Gate.{Fits}
+use Rattle.bank.specs.Layout.{Unused, FitsAlone, Ready, laid, LaysOut}
+
+none_marked : (ms : List Bool) (x : ℕ) → marked ms ≡ 0 → slice_index_or ms x false ≡ false
+none_marked ms x q = go (slice_index_or ms x false) refl
+  where
+    go : (b : Bool) → slice_index_or ms x false ≡ b → b ≡ false
+    go true h = absurd (omega (arith, marked_returned ms x h))
+    go false h = refl
+
+same_all : {X : Type 0} (n p : ℕ) (x : X) → get_or (replicate n x) p x ≡ x
+same_all zero p x = refl
+same_all (suc n) zero x = refl
+same_all (suc n) (suc p) x = same_all n p x
+
+module _ {K V : Type 0} (compares : K → K → Ordering) (s : State K V) where
+  fresh_models : FitsAlone s → Ready s → Models compares (laid s) (replicate 16 bare)
+  fresh_models f u = record {
+    sized = record { most = f.most; keys_room = f.keys_room; values_room = f.values_room };
+    size_is = refl;
+    fits = λ _. u.size;
+    sixteen = refl;
+    held = λ p l. subst (λ x. BookAt compares s.tables x (book_in (replicate 16 bare) p)) (sym (same_all 16 p P.Bare)) (subst (λ b. BookAt compares s.tables P.Bare b) (sym (same_all 16 p none)) tt);
+    numbers = λ x. omega (arith, mark_unused s.stock x (none_marked s.stock.marks x u.none));
+  }
+    where
+      none : Book (K × V)
+      none = bare
+
+  begin_here : (S : Stock) → Runs {K = K} {V = V} compares [] S (replicate 16 bare)
+  unfolding Runs
+  begin_here S = refl
+
+  pub laid_misfit : (FitsAlone s → ⊥) → LaysOut compares s s (Err (1, []))
+  laid_misfit n = record {
+    misfit = λ _. (refl, refl);
+    taken = λ f. absurd (n f);
+    granted = λ f. absurd (n f);
+    models = λ f. absurd (n f);
+    begins = begin_here s.stock;
+  }
+
+  pub laid_taken : FitsAlone s → (Ready s → ⊥) → LaysOut compares s s (Err (2, []))
+  laid_taken f n = record {
+    misfit = λ m. absurd (m f);
+    taken = λ _ _. (refl, refl);
+    granted = λ _ u. absurd (n u);
+    models = λ _ u. absurd (n u);
+    begins = begin_here s.stock;
+  }
+
+  pub laid_out : FitsAlone s → Ready s → LaysOut compares s (laid s) (Ok tt)
+  laid_out f u = record {
+    misfit = λ m. absurd (m f);
+    taken = λ _ n. absurd (n u);
+    granted = λ _ _. (refl, refl);
+    models = fresh_models;
+    begins = begin_here s.stock;
+  }
