@@ -1,21 +1,19 @@
 -- A bank whose books are replaced in one place, or in two, while the others stand beside. Assumes nothing.
-use Rattle.std.proofs.Common.{◌≡◌, ◌≢◌, ℕ, ◌+◌, ◌*◌, ◌<◌, ◌≤◌, true, false, inl, inr, List, [], ◌∷◌, length, slice_set, nat_lt, Some, None, All, refl, sym, ap, ◌∙◌, subst, arith, slice_index_or, length-set, get_or-set_same, get_or-set_other, ◌⊎◌}
+use Rattle.std.proofs.Common.{◌≡◌, ◌≢◌, ℕ, ◌+◌, ◌<◌, ◌≤◌, inl, inr, List, length, slice_set, All, refl, sym, ap, ◌∙◌, subst, arith, length-set, get_or-set_same, get_or-set_other, ◌⊎◌}
 use Rattle.std.proofs.lemmas.Bool.{cases_eq}
 use Rattle.std.proofs.lemmas.List.{get_or_default}
 use Rattle.std.specs.declared.cmp.Ordering.{Ordering}
-use Rattle.supply.specs.Stocks.{Stock, size_of}
-use Rattle.node.specs.Balance.{mark, Balanced, Beside}
-use Rattle.node.specs.Laws.{occurs, below}
-use Rattle.node.specs.Shape.{Tree, number, total, root_least}
-use Rattle.node.specs.Store.{Tables, Sized}
+use Rattle.supply.specs.Stocks.{Stock}
+use Rattle.node.specs.Balance.{mark, Beside}
+use Rattle.node.specs.Shape.{number, total}
+use Rattle.node.specs.Store.{Tables}
 use Rattle.node.proofs.Balances.{beside_holds, beside_sized}
 use Rattle.node.proofs.Numbers.{occurs_root, occurs_below}
 use Rattle.walk.proofs.Framing.{shown_frame}
 use Rattle.walk.proofs.Windows.{shown_fanned}
-use Rattle.walk.specs.declared.walks.Walk.{Walk}
 use Rattle.books.specs.declared.places.Place.{Place}
 use Rattle.books.specs.declared.places.Place.TheVariants as P
-use Rattle.books.specs.Books.{Book, bare, planted, walked, idle, uses, book_in, TreeAt, WalkAt, BookAt}
+use Rattle.books.specs.Books.{Book, bare, planted, walked, idle, uses, book_in, BookAt}
 use Rattle.books.specs.Meaning.{Sound}
 use Rattle.books.specs.Places.{place_in}
 use Rattle.books.specs.Rules.{kind_of, kind_at}

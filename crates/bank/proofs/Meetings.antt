@@ -1,28 +1,26 @@
 -- What a call does to a bank in good form, from what it does at its places. Assumes nothing.
-use Rattle.std.proofs.Common.{◌≡◌, ◌≢◌, ℕ, ◌+◌, ◌*◌, ◌<◌, ◌≤◌, Bool, true, false, inl, inr, cond, List, [], ◌∷◌, length, slice_set, nat_lt, nat_eq, Some, None, Ok, Err, Option, Result, All, refl, sym, ap, ◌∙◌, subst, arith, ◌⊎◌}
-use Rattle.std.proofs.lemmas.Bool.{cases_lt, ltb-true, false≢true}
-use Rattle.std.proofs.lemmas.Option.{none-some}
+use Rattle.std.proofs.Common.{◌≡◌, ◌≢◌, ℕ, ◌+◌, ◌<◌, Bool, true, false, cond, List, ◌∷◌, length, slice_set, nat_lt, nat_eq, Some, None, Ok, Err, Option, Result, refl, sym, ap, ◌∙◌, subst}
+use Rattle.std.proofs.lemmas.Bool.{ltb-true}
 use Rattle.std.specs.declared.cmp.Ordering.{Ordering}
 use Rattle.supply.specs.Stocks.{Stock, size_of, outs_of}
 use Rattle.order.specs.Laws.{Ordered}
-use Rattle.node.specs.Balance.{Unchanged}
 use Rattle.node.specs.Store.{Tables}
 use Rattle.books.specs.declared.places.Place.{Place}
 use Rattle.books.specs.declared.calls.Answer.{Answer}
 use Rattle.books.specs.declared.calls.Call.TheVariants.{Insert, Lookup, Count, Cut, Open, Step, Close, Release, Audit}
 use Rattle.books.specs.Books.{Book, bare, book_in}
-use Rattle.books.specs.Meaning.{Agreeing, Means}
+use Rattle.books.specs.Meaning.{Means}
 use Rattle.books.specs.Places.{place_in}
 use Rattle.books.specs.Refusals.{Code}
 use Rattle.books.specs.Rules.{Asked, Kind, Outcome, outcome, Part, Parts, placed, parted, rule, checked, act, check, check_one, check_two, no_place, wrong_kind, kind_of, is_map, is_walk, is_bare}
-use Rattle.books.specs.Runs.{Event, event, Next, Runs, Even}
+use Rattle.books.specs.Runs.{Event, event, Next, Runs}
 use Rattle.books.specs.States.{State, Models}
 use Rattle.books.proofs.Keeping.{ok_err}
 use Rattle.books.proofs.Placing.{again}
 use Rattle.books.proofs.Ruling.{rule_means}
 use Rattle.books.proofs.Running.{sound_low, runs_stand}
 use Rattle.acts.specs.Acts.{Becomes, Halves}
-use Rattle.bank.specs.Calls.{Fit, Met}
+use Rattle.bank.specs.Calls.{Fit, Met, Performs}
 use Rattle.bank.specs.Gate.{kinds}
 use Rattle.bank.proofs.Keepings.{all_sound, kind_same, one_replaced, two_replaced}
 
@@ -58,33 +56,54 @@ module _ (k k' : ℕ → Kind) (same : (p : ℕ) → p < 16 → k p ≡ k' p) wh
   check_same (Release p) = one_same is_map p
   check_same Audit = refl
 
-module _ {K V : Type 0} {compares : K → K → Ordering} (ordered : Ordered compares) (s : State K V) (c : Asked K V) (pass : check (kinds s.places) c ≡ None) (bs : List (Book (K × V))) (m : Models compares s bs) where
-  pub rule_acts : (fresh : ℕ → ℕ) (top : ℕ) → rule compares fresh top s.stock.allowance c bs ≡ act compares fresh top s.stock.allowance c bs
-  rule_acts fresh top =
-      ap (checked compares fresh top s.stock.allowance c bs)
-      (check_same (λ p. kind_of (book_in bs p)) (kinds s.places) (λ p l. kind_same compares s.tables (place_in s.places p) (book_in bs p) (m.held p l)) c ∙ pass)
+module _ {K V : Type 0} {compares : K → K → Ordering} (ordered : Ordered compares) (s : State K V) (c : Asked K V) (bs : List (Book (K × V))) (m : Models compares s bs) where
+  -- the checks see the same of the books as of the places
+  check_is : check (λ p. kind_of (book_in bs p)) c ≡ check (kinds s.places) c
+  check_is = check_same (λ p. kind_of (book_in bs p)) (kinds s.places) (λ p l. kind_same compares s.tables (place_in s.places p) (book_in bs p) (m.held p l)) c
 
   module _ (s' : State K V) (r : Result (Answer K V) Code) (books : List (Book (K × V))) (m' : Models compares s' books) (fresh : ℕ → ℕ) (top : ℕ)
-      (by : outcome r books ≡ act compares fresh top s.stock.allowance c bs) (size : size_of s'.stock ≡ size_of s.stock) (allowance : s'.stock.allowance + outs_of s'.stock ≡ s.stock.allowance + outs_of s.stock)
+      (by : outcome r books ≡ rule compares fresh top s.stock.allowance c bs) (size : size_of s'.stock ≡ size_of s.stock) (allowance : s'.stock.allowance + outs_of s'.stock ≡ s.stock.allowance + outs_of s.stock)
       (declined : (e : Code) → r ≡ Err e → s' ≡ s) where
     following : Next compares (event c r) s.stock bs s'.stock books
-    following = record { fresh = fresh; top = top; by_rule = by ∙ sym (rule_acts fresh top); size = size; allowance = allowance }
+    following = record { fresh = fresh; top = top; by_rule = by; size = size; allowance = allowance }
 
     running : (past : List (Event K V)) → Runs compares past s.stock bs → Runs compares (event c r ∷ past) s'.stock books
     unfolding Runs
     running past w = (s.stock, bs, w, following)
 
-    pub met_by : Met compares c s s' r bs
-    met_by = record {
+    pub met_rule : Met compares c s s' r bs
+    met_rule = record {
       books = books;
       models = m';
       next = following;
-      means = λ g. subst (λ (o : Outcome K V). Means compares s.stock.allowance bs o.books o.answer c) (rule_acts fresh top ∙ sym by) (rule_means compares fresh top s.stock.allowance c bs ordered g m.sixteen (all_sound compares s bs m));
+      means = λ g. subst (λ (o : Outcome K V). Means compares s.stock.allowance bs o.books o.answer c) (sym by) (rule_means compares fresh top s.stock.allowance c bs ordered g m.sixteen (all_sound compares s bs m));
       runs = running;
       even = λ past w. (runs_stand compares (event c r ∷ past) s'.stock books ordered (running past w)).2;
       low = sound_low compares books (all_sound compares s' books m');
       declined = declined;
     }
+
+  -- refused by the checks of places
+  pub met_refused : (e : Code) → check (kinds s.places) c ≡ Some e → (s' : State K V) → s' ≡ s → Met compares c s s' (Err e) bs
+  met_refused e q s' z =
+      subst (λ y. Met compares c s y (Err e) bs) (sym z)
+      (met_rule s (Err e) bs m (λ _. 0) 0 (sym (ap (checked compares (λ _. 0) 0 s.stock.allowance c bs) (check_is ∙ q))) refl refl (λ _ _. refl))
+
+  -- whatever the checks say
+  pub met_any : (s' : State K V) (r : Result (Answer K V) Code) → Fit s → Performs compares c s s' r → Met compares c s s' r bs
+  met_any s' r f d = go (check (kinds s.places) c) refl
+    where
+      go : (o : Option Code) → check (kinds s.places) c ≡ o → Met compares c s s' r bs
+      go None q = d.meets f q bs m
+      go (Some e) q = let u = d.refused f e q in subst (λ y. Met compares c s s' y bs) (sym u.0) (met_refused e q s' u.1)
+
+module _ {K V : Type 0} {compares : K → K → Ordering} (ordered : Ordered compares) (s : State K V) (c : Asked K V) (pass : check (kinds s.places) c ≡ None) (bs : List (Book (K × V))) (m : Models compares s bs) where
+  rule_acts : (fresh : ℕ → ℕ) (top : ℕ) → rule compares fresh top s.stock.allowance c bs ≡ act compares fresh top s.stock.allowance c bs
+  rule_acts fresh top = ap (checked compares fresh top s.stock.allowance c bs) (check_is ordered s c bs m ∙ pass)
+
+  met_by : (s' : State K V) (r : Result (Answer K V) Code) (books : List (Book (K × V))) → Models compares s' books → (fresh : ℕ → ℕ) (top : ℕ) → outcome r books ≡ act compares fresh top s.stock.allowance c bs
+      → size_of s'.stock ≡ size_of s.stock → s'.stock.allowance + outs_of s'.stock ≡ s.stock.allowance + outs_of s.stock → ((e : Code) → r ≡ Err e → s' ≡ s) → Met compares c s s' r bs
+  met_by s' r books m' fresh top by size allowance declined = met_rule ordered s c bs m s' r books m' fresh top (by ∙ sym (rule_acts fresh top)) size allowance declined
 
   -- granted: the place and its book are replaced
   pub met_one : (p : ℕ) → p < 16 → length s.places ≡ 16 → (fresh : ℕ → ℕ) (top : ℕ) (o : Part K V) → act compares fresh top s.stock.allowance c bs ≡ placed p bs o → (T' : Tables K V) (S' : Stock) (place : Place) (x : Answer K V) → o.0 ≡ Ok x

@@ -1,5 +1,5 @@
 -- Each call of the bank, from its checks and what it does at its places. Assumes nothing.
-use Rattle.std.proofs.Common.{◌≡◌, ℕ, ◌+◌, ◌<◌, ◌≤◌, Bool, true, false, Decides, List, [], ◌∷◌, length, slice_set, Some, None, Ok, Err, Option, Result, refl, sym, ap, ◌∙◌, subst, arith}
+use Rattle.std.proofs.Common.{◌≡◌, ℕ, ◌<◌, Bool, true, false, Decides, List, length, slice_set, None, Ok, Err, Option, Result, refl, sym, ap, ◌∙◌, subst}
 use Rattle.std.proofs.lemmas.Bool.{false≢true}
 use Rattle.std.proofs.lemmas.Option.{none-some}
 use Rattle.std.specs.declared.cmp.Ordering.{Ordering}
@@ -9,9 +9,8 @@ use Rattle.order.specs.Laws.{Ordered}
 use Rattle.node.specs.Balance.{Unchanged}
 use Rattle.node.specs.Store.{Tables}
 use Rattle.books.specs.declared.places.Place.{Place}
-use Rattle.books.specs.declared.refusals.Refusal.{Refusal}
 use Rattle.books.specs.declared.calls.Answer.{Answer}
-use Rattle.books.specs.declared.calls.Answer.TheVariants.{Inserted, Found, Counted, Parted, Opened, Handed, Dropped, Audited}
+use Rattle.books.specs.declared.calls.Answer.TheVariants.{Inserted, Counted, Opened, Handed, Dropped, Audited}
 use Rattle.books.specs.declared.calls.Call.TheVariants.{Insert, Lookup, Count, Cut, Open, Step, Close, Release, Audit}
 use Rattle.node.specs.declared.ends.Side.{Side}
 use Rattle.walk.specs.declared.walks.Walk.{Walk}
@@ -19,7 +18,7 @@ use Rattle.books.specs.declared.places.Place.TheVariants as P
 use Rattle.books.specs.Books.{Book, bare, planted, walked, idle, entries, book_in, BookAt}
 use Rattle.books.specs.Faults.{fault_code}
 use Rattle.books.specs.Places.{place_in}
-use Rattle.books.specs.Refusals.{Code, code}
+use Rattle.books.specs.Refusals.{Code}
 use Rattle.books.specs.Rules.{Asked as Call, Query, Kind, outcome, check, check_one, check_two, kind_of, is_map, is_walk, is_bare, insert_in, cut_in, open_in, step_in, drop_in}
 use Rattle.books.specs.States.{State, Models, GoodForm}
 use Rattle.books.proofs.Placing.{one_passes, Two, two_pass, bare_is}

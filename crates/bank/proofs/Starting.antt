@@ -1,19 +1,14 @@
 -- Laying out, from its checks. Assumes nothing.
-use Rattle.std.proofs.Common.{◌≡◌, ℕ, zero, suc, ◌+◌, ◌<◌, ◌≤◌, Bool, true, false, cond, List, [], ◌∷◌, length, replicate, get_or, slice_index_or, count_by, Ok, Err, refl, sym, ap, ◌∙◌, subst, arith}
+use Rattle.std.proofs.Common.{◌≡◌, ℕ, zero, suc, Bool, true, false, List, [], replicate, get_or, slice_index_or, Ok, Err, refl, sym, subst, arith}
 use Rattle.std.specs.declared.cmp.Ordering.{Ordering}
-use Rattle.supply.specs.Stocks.{Stock, size_of, outs_of, is_out, marked}
+use Rattle.supply.specs.Stocks.{Stock, marked}
 use Rattle.supply.proofs.StockLaws.{marked_returned}
-use Rattle.node.specs.Balance.{mark}
-use Rattle.node.specs.Shape.{total}
-use Rattle.node.specs.Store.{Tables, Sized}
 use Rattle.node.proofs.Balances.{mark_unused}
 use Rattle.books.specs.declared.places.Place.TheVariants as P
-use Rattle.books.specs.Books.{Book, bare, uses, book_in, BookAt}
-use Rattle.books.specs.Places.{place_in}
+use Rattle.books.specs.Books.{Book, bare, book_in, BookAt}
 use Rattle.books.specs.Runs.{Runs}
 use Rattle.books.specs.States.{State, Models}
-use Rattle.bank.specs.Gate.{Fits}
-use Rattle.bank.specs.Layout.{Unused, FitsAlone, Ready, laid, LaysOut}
+use Rattle.bank.specs.Layout.{FitsAlone, Ready, laid, LaysOut}
 
 none_marked : (ms : List Bool) (x : ℕ) → marked ms ≡ 0 → slice_index_or ms x false ≡ false
 none_marked ms x q = go (slice_index_or ms x false) refl

@@ -6,10 +6,10 @@
 --   Reads c          the call changes no table
 --   Asks c           the call changes nothing at all
 --   Audits c         the call is an audit; it answers whether the bank is in good form
+--   Keeps            the same of every call, granted or refused
 --   Performs         all this; and of any content: calls that the checks of tables and places refuse are refused, and nothing has changed
-use Rattle.std.specs.Prelude.{◌≡◌, ℕ, ◌<◌, Bool, true, false, Decides, List, [], ◌∷◌, length, Some, None, Ok, Err, Result}
+use Rattle.std.specs.Prelude.{◌≡◌, ℕ, Bool, true, false, Decides, List, [], ◌∷◌, length, Some, None, Ok, Err, Result}
 use Rattle.std.specs.declared.cmp.Ordering.{Ordering}
-use Rattle.node.specs.Store.{Tables, Sized}
 use Rattle.books.specs.declared.places.Place.{Place}
 use Rattle.books.specs.declared.places.Place.TheVariants as P
 use Rattle.books.specs.declared.calls.Answer.{Answer}
@@ -95,3 +95,7 @@ pub record Performs {K V : Type 0} (compares : K → K → Ordering) (c : Asked 
   pub asks : Asks c ≡ true → s' ≡ s
   pub audits : Fit s → Audits c ≡ true → (b : Bool) × (r ≡ Ok (Audited b)) × Decides b (GoodForm compares s)
   pub meets : Fit s → check (kinds s.places) c ≡ None → (bs : List (Book (K × V))) → Models compares s bs → Met compares c s s' r bs
+
+-- of every call in good form, granted or refused, also by the checks of places
+abbrev pub Keeps : {K V : Type 0} → (K → K → Ordering) → Asked K V → State K V → State K V → Result (Answer K V) Code → Type 0
+Keeps {K} {V} compares c s s' r = (bs : List (Book (K × V))) → Fit s → Models compares s bs → Met compares c s s' r bs

@@ -3,11 +3,11 @@
 --   FitsAlone, Ready    the tables fit together, and the supply is unused, with a number for each head
 --   laid s           the same tables and supply, the size of the tables, and sixteen bare places
 --   LaysOut          of any content: refused for the tables, or for the supply, with nothing changed; else granted, and a run begins
-use Rattle.std.specs.Prelude.{◌≡◌, ℕ, List, [], length, Ok, Err, Result, replicate}
+use Rattle.std.specs.Prelude.{◌≡◌, ℕ, [], length, Ok, Err, Result, replicate}
 use Rattle.std.specs.declared.cmp.Ordering.{Ordering}
 use Rattle.supply.specs.Stocks.{Stock, size_of, outs_of}
 use Rattle.books.specs.declared.places.Place.TheVariants as P
-use Rattle.books.specs.Books.{Book, bare}
+use Rattle.books.specs.Books.{bare}
 use Rattle.books.specs.Refusals.{Code}
 use Rattle.books.specs.Runs.{Runs}
 use Rattle.books.specs.States.{State, Models}

@@ -4,3 +4,4 @@ pub mod Fitting
 pub mod Gate
 pub mod Kinds
 pub mod Layout
+pub mod Lists

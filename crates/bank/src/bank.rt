@@ -1,5 +1,8 @@
 //! The bank, and its calls.
 
+ghost use Rattle.std.specs.Prelude.{◌≡◌};
+ghost use Rattle.bank.specs.Calls.{count_at};
+
 use crate::gate::{CallKind, admit, admit_cut, admit_walk, fit};
 use acts::cutting::cut_in;
 use acts::inserting::insert_in;
@@ -13,9 +16,6 @@ use node::head::Head;
 use node::tables::Tables;
 use order::keys::{KeyOrder, Placing, PointQuery, Query};
 use supply::Supply;
-
-ghost use Rattle.std.specs.Prelude.{◌≡◌};
-ghost use Rattle.bank.specs.Calls.{count_at};
 
 /// How many entries a place has.
 fn count_in(place: Place) -> usize

@@ -1,15 +1,15 @@
 //! What is checked before a call does anything.
 
+ghost use Rattle.std.specs.Prelude.{◌≡◌, MatchResult};
+ghost use Rattle.bank.specs.Gate.{Fits, Admits, AdmitsWalk, Permits};
+ghost use Rattle.bank.specs.Kinds.{allowed};
+ghost use Rattle.books.specs.Rules.{kind_at};
+
 use books::places::{Place, Register};
 use books::refusals::Refusal;
 use node::head::CAPACITY;
 use node::tables::MOST;
 use walk::walks::Walk;
-
-ghost use Rattle.std.specs.Prelude.{◌≡◌, MatchResult};
-ghost use Rattle.bank.specs.Gate.{Fits, Admits, AdmitsWalk, Permits};
-ghost use Rattle.bank.specs.Kinds.{allowed};
-ghost use Rattle.books.specs.Rules.{kind_at};
 
 /// The kinds of calls on a place.
 #[derive(Clone, Copy, PartialEq, Eq, Debug)]
@@ -44,7 +44,14 @@ pub(crate) fn allows(place: Place, call: CallKind) -> bool
 {
     match (place, call) {
         (_, CallKind::Count) => true,
-        (Place::Bare | Place::Tree { .. }, CallKind::Insert | CallKind::Lookup | CallKind::Cut | CallKind::Open | CallKind::Release) => true,
+        (
+            Place::Bare | Place::Tree { .. },
+            CallKind::Insert
+            | CallKind::Lookup
+            | CallKind::Cut
+            | CallKind::Open
+            | CallKind::Release,
+        ) => true,
         (Place::Walk(_), CallKind::Step | CallKind::Close) => true,
         _ => false,
     }

@@ -1,5 +1,8 @@
 //! Calls given as values.
 
+ghost use Rattle.std.specs.Prelude.{◌≡◌, ◌<◌, length, slice_set};
+ghost use Rattle.bank.specs.Lists.{Lesser};
+
 use crate::bank::Bank;
 use books::calls::{Answer, Call};
 use books::refusals::Refusal;
@@ -7,14 +10,30 @@ use node::head::Head;
 use order::keys::{KeyOrder, Placing, PointQuery, Query};
 use supply::Supply;
 
+/// The lesser of two numbers.
+fn lesser(a: usize, b: usize) -> usize
+    ensures { Lesser result a b }
+{
+    if a < b { a } else { b }
+}
+
+/// Puts `item` at an index of a slice.
+fn put<T: Copy>(slice: &mut [T], at: usize, item: T)
+    requires { at < length slice.old }
+    ensures { slice.new ≡ slice_set slice.old at item }
+{
+    slice[at] = item;
+}
+
 impl<S: Supply> Bank<S> {
     ghost use Rattle.node.specs.Store.{tables};
     ghost use Rattle.books.specs.Rules.{asked};
     ghost use Rattle.bank.specs.Banks.{state_of};
-    ghost use Rattle.bank.specs.Calls.{told, itself, Performs};
+    ghost use Rattle.bank.specs.Calls.{told, itself, Performs, Keeps};
+    ghost use Rattle.bank.specs.Lists.{PerformsAll, first_calls, first_answers};
 
-    /// Performs a call, and answers what it answers.
-    pub fn perform<K: KeyOrder, V: Copy, Q: PointQuery<K>>(
+    /// Performs a call by its case.
+    fn dispatch<K: KeyOrder, V: Copy, Q: PointQuery<K>>(
         &mut self,
         heads: &mut [Head],
         keys: &mut [K],
@@ -36,7 +55,11 @@ impl<S: Supply> Bank<S> {
                 let count = self.count(heads, keys, values, *place)?;
                 Ok(Answer::Counted(count))
             }
-            Call::Cut { place, other, query } => {
+            Call::Cut {
+                place,
+                other,
+                query,
+            } => {
                 let (left, right, made) = self.cut(heads, keys, values, *place, *other, query)?;
                 Ok(Answer::Parted(left, right, made))
             }
@@ -61,5 +84,39 @@ impl<S: Supply> Bank<S> {
                 Ok(Answer::Audited(good))
             }
         }
+    }
+
+    /// Performs a call, and answers what it answers.
+    pub fn perform<K: KeyOrder, V: Copy, Q: PointQuery<K>>(
+        &mut self,
+        heads: &mut [Head],
+        keys: &mut [K],
+        values: &mut [V],
+        call: &Call<K, V, Q>,
+    ) -> Result<Answer<K, V>, Refusal>
+        ensures does { Performs K.KeyOrder.compares (asked Q.Placing.places call.now) (state_of S.stock self.old (tables heads.old keys.old values.old)) (state_of S.stock self.new (tables heads.new keys.new values.new)) (told itself result) }
+        ensures keeps { Keeps K.KeyOrder.compares (asked Q.Placing.places call.now) (state_of S.stock self.old (tables heads.old keys.old values.old)) (state_of S.stock self.new (tables heads.new keys.new values.new)) (told itself result) }
+    {
+        self.dispatch(heads, keys, values, call)
+    }
+
+    /// Performs calls one after the other and puts down what each answers, as many as there is room for. Answers how many were performed.
+    pub fn perform_all<K: KeyOrder, V: Copy, Q: PointQuery<K>>(
+        &mut self,
+        heads: &mut [Head],
+        keys: &mut [K],
+        values: &mut [V],
+        calls: &[Call<K, V, Q>],
+        answers: &mut [Result<Answer<K, V>, Refusal>],
+    ) -> usize
+        ensures count { Lesser result (length calls.now) (length answers.old) }
+        ensures all { PerformsAll K.KeyOrder.compares (first_calls Q.Placing.places result calls.now) (state_of S.stock self.old (tables heads.old keys.old values.old)) (state_of S.stock self.new (tables heads.new keys.new values.new)) (first_answers result answers.new) }
+    {
+        let count = lesser(calls.len(), answers.len());
+        for idx in 0..count {
+            let answer = self.perform(heads, keys, values, &calls[idx]);
+            put(answers, idx, answer);
+        }
+        count
     }
 }

@@ -1,4 +1,3 @@
-use Rattle.std.proofs.Common.{◌≡◌, refl}
 use Rattle.node.specs.Store.{tables}
 use Rattle.bank.specs.Banks.{state_of}
 use Rattle.bank.proofs.Performing.{fit_of, audited_done}

@@ -1,4 +1,4 @@
-use Rattle.std.proofs.Common.{◌≡◌, refl, true}
+use Rattle.std.proofs.Common.{true}
 use Rattle.node.specs.Store.{tables}
 use Rattle.bank.specs.Banks.{state_of}
 use Rattle.bank.proofs.Performing.{fit_of, asked_of, counted_done}
