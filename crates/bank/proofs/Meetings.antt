@@ -3,16 +3,17 @@ use Rattle.std.proofs.Common.{◌≡◌, ◌≢◌, ℕ, ◌+◌, ◌<◌, Bool,
 use Rattle.std.proofs.lemmas.Bool.{ltb-true}
 use Rattle.std.specs.declared.cmp.Ordering.{Ordering}
 use Rattle.supply.specs.Stocks.{Stock, size_of, outs_of}
-use Rattle.order.specs.Laws.{Ordered}
+use Rattle.order.specs.Laws.{Ordered, Placed}
 use Rattle.node.specs.Store.{Tables}
 use Rattle.books.specs.declared.places.Place.{Place}
 use Rattle.books.specs.declared.calls.Answer.{Answer}
 use Rattle.books.specs.declared.calls.Call.TheVariants.{Insert, Lookup, Count, Cut, Open, Step, Close, Release, Audit}
 use Rattle.books.specs.Books.{Book, bare, book_in}
-use Rattle.books.specs.Meaning.{Means}
+use Rattle.books.specs.Meaning.{Agreeing, Means}
 use Rattle.books.specs.Places.{place_in}
 use Rattle.books.specs.Refusals.{Code}
-use Rattle.books.specs.Rules.{Asked, Kind, Outcome, outcome, Part, Parts, placed, parted, rule, checked, act, check, check_one, check_two, no_place, wrong_kind, kind_of, is_map, is_walk, is_bare}
+use Rattle.books.specs.declared.calls.Call.{Call}
+use Rattle.books.specs.Rules.{Asked, asked, Kind, Outcome, outcome, Part, Parts, placed, parted, rule, checked, act, check, check_one, check_two, no_place, wrong_kind, kind_of, is_map, is_walk, is_bare}
 use Rattle.books.specs.Runs.{Event, event, Next, Runs}
 use Rattle.books.specs.States.{State, Models}
 use Rattle.books.proofs.Keeping.{ok_err}
@@ -23,6 +24,18 @@ use Rattle.acts.specs.Acts.{Becomes, Halves}
 use Rattle.bank.specs.Calls.{Fit, Met, Performs}
 use Rattle.bank.specs.Gate.{kinds}
 use Rattle.bank.proofs.Keepings.{all_sound, kind_same, one_replaced, two_replaced}
+
+-- the query of a call agrees with the order of the keys
+pub agreeing : {K V Q : Type 0} {compares : K → K → Ordering} {places : Q → K → Ordering} → Placed compares places → (c : Call K V Q) → Agreeing compares (asked places c)
+agreeing w (Insert p k v) = tt
+agreeing w (Lookup p q) = record { under = w.under q; over = w.over q }
+agreeing w (Count p) = tt
+agreeing w (Cut p o q) = record { under = w.under q; over = w.over q }
+agreeing w (Open p) = tt
+agreeing w (Step p d) = tt
+agreeing w (Close p) = tt
+agreeing w (Release p) = tt
+agreeing w Audit = tt
 
 -- ---- the checks, by places and by books
 

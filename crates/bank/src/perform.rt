@@ -27,6 +27,7 @@ fn put<T: Copy>(slice: &mut [T], at: usize, item: T)
 
 impl<S: Supply> Bank<S> {
     ghost use Rattle.node.specs.Store.{tables};
+    ghost use Rattle.books.specs.Meaning.{Agreeing};
     ghost use Rattle.books.specs.Rules.{asked};
     ghost use Rattle.bank.specs.Banks.{state_of};
     ghost use Rattle.bank.specs.Calls.{told, itself, Performs, Keeps};
@@ -95,6 +96,7 @@ impl<S: Supply> Bank<S> {
         call: &Call<K, V, Q>,
     ) -> Result<Answer<K, V>, Refusal>
         ensures does { Performs K.KeyOrder.compares (asked Q.Placing.places call.now) (state_of S.stock self.old (tables heads.old keys.old values.old)) (state_of S.stock self.new (tables heads.new keys.new values.new)) (told itself result) }
+        ensures agrees { Agreeing K.KeyOrder.compares (asked Q.Placing.places call.now) }
         ensures keeps { Keeps K.KeyOrder.compares (asked Q.Placing.places call.now) (state_of S.stock self.old (tables heads.old keys.old values.old)) (state_of S.stock self.new (tables heads.new keys.new values.new)) (told itself result) }
     {
         self.dispatch(heads, keys, values, call)
