@@ -18,6 +18,7 @@ use Rattle.books.specs.Runs.{Event, event, Next, Runs}
 use Rattle.books.specs.States.{State, Models}
 use Rattle.books.proofs.Keeping.{ok_err}
 use Rattle.books.proofs.Placing.{again}
+use Rattle.books.proofs.Numbering.{rule_numbers}
 use Rattle.books.proofs.Ruling.{rule_means}
 use Rattle.books.proofs.Running.{sound_low, runs_stand}
 use Rattle.acts.specs.Acts.{Becomes, Halves}
@@ -94,6 +95,7 @@ module _ {K V : Type 0} {compares : K → K → Ordering} (ordered : Ordered com
       even = λ past w. (runs_stand compares (event c r ∷ past) s'.stock books ordered (running past w)).2;
       low = sound_low compares books (all_sound compares s' books m');
       declined = declined;
+      numbered = λ e q. rule_numbers compares fresh top s.stock.allowance c bs e (ap (λ (o : Outcome K V). o.answer) (sym by) ∙ q);
     }
 
   -- refused by the checks of places

@@ -2,7 +2,8 @@
 --   Fit s            the tables fit together, and are of the bank's size
 --   told f r         the answer of a call as a value, or the number of its refusal with the values that go with it
 --   Met              on books that model the bank: it models other books, those that the rule of the call gives, with the answer that the rule
---                    gives. This means for the lists what the call of an ordered map means. Over every run up to here the entries come out even
+--                    gives. This means for the lists what the call of an ordered map means. A refusal leaves the
+--                    state as it was, and is never for a breach. Over every run up to here the entries come out even
 --   Reads c          the call changes no table
 --   Asks c           the call changes nothing at all
 --   Audits c         the call is an audit; it answers whether the bank is in good form
@@ -17,6 +18,7 @@ use Rattle.books.specs.declared.calls.Answer.TheVariants.{Audited, Opened}
 use Rattle.books.specs.declared.calls.Call.TheVariants.{Insert, Lookup, Count, Cut, Open, Step, Close, Release, Audit}
 use Rattle.books.specs.declared.refusals.Refusal.{Refusal}
 use Rattle.books.specs.Books.{Book}
+use Rattle.books.specs.Laws.{Numbered}
 use Rattle.books.specs.Meaning.{Agreeing, Means}
 use Rattle.books.specs.Refusals.{Code, code}
 use Rattle.books.specs.Rules.{Asked, check}
@@ -53,6 +55,7 @@ pub record Met {K V : Type 0} (compares : K → K → Ordering) (c : Asked K V) 
   pub even : (past : List (Event K V)) → Runs compares past s.stock bs → Even (event c r ∷ past) books
   pub low : Low books
   pub declined : (e : Code) → r ≡ Err e → s' ≡ s
+  pub numbered : (e : Code) → r ≡ Err e → Numbered e
 
 abbrev pub Reads : {K V : Type 0} → Asked K V → Bool
 Reads (Insert p k v) = false

@@ -7,3 +7,4 @@ pub mod Cutting
 pub mod Ruling
 pub mod Running
 pub mod Cases
+pub mod Numbering

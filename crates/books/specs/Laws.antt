@@ -1,9 +1,10 @@
 -- Theorems on the rules of the calls.
-use Rattle.std.specs.Prelude.{◌≡◌, ℕ, ◌+◌, List, ◌∷◌, length, All}
+use Rattle.std.specs.Prelude.{◌≡◌, ℕ, ◌+◌, ◌⊎◌, List, ◌∷◌, length, Err, All}
 use Rattle.std.specs.declared.cmp.Ordering.{Ordering}
 use Rattle.supply.specs.Stocks.{Stock}
 use Rattle.order.specs.Laws.{Ordered}
 use Rattle.books.specs.Books.{Book}
+use Rattle.books.specs.Refusals.{Code}
 use Rattle.books.specs.Rules.{Asked, rule}
 use Rattle.books.specs.Meaning.{Sound, Agreeing, Means}
 use Rattle.books.specs.Runs.{Event, Next, Runs, count_all, inserted, handed, dropped, Even, Low}
@@ -19,6 +20,14 @@ abbrev pub RuleMeans : Type 0 → Type 0 → Type 0
 RuleMeans K V =
     (compares : K → K → Ordering) (fresh : ℕ → ℕ) (top a : ℕ) (c : Asked K V) (bs : List (Book (K × V))) → Ordered compares → Agreeing compares c → length bs ≡ 16 → All (Sound compares) bs
     → Means compares a bs (rule compares fresh top a c bs).books (rule compares fresh top a c bs).answer c
+
+-- a refusal by the rule has the number 3, 4 or 6: it is never for a breach
+abbrev pub Numbered : Code → Type 0
+Numbered e = (e.0 ≡ 3) ⊎ ((e.0 ≡ 4) ⊎ (e.0 ≡ 6))
+
+abbrev pub RuleNumbers : Type 0 → Type 0 → Type 0
+RuleNumbers K V =
+    (compares : K → K → Ordering) (fresh : ℕ → ℕ) (top a : ℕ) (c : Asked K V) (bs : List (Book (K × V))) (e : Code) → (rule compares fresh top a c bs).answer ≡ Err e → Numbered e
 
 -- a call adds what it inserts, and takes off what it hands out or drops
 abbrev pub RuleEven : Type 0 → Type 0 → Type 0

@@ -1,12 +1,13 @@
 //! Theorems on the rules of the calls: each function stands for those that its contract names.
 
 ghost use Rattle.books.specs.Cases.{WorkedCalls};
-ghost use Rattle.books.specs.Laws.{RuleSound, RuleMeans, RuleEven, RunsStand};
+ghost use Rattle.books.specs.Laws.{RuleSound, RuleMeans, RuleNumbers, RuleEven, RunsStand};
 
-/// Sound books stay sound; each rule means for the lists what the call of an ordered map does; and entries come out even at each call.
+/// Sound books stay sound; each rule means for the lists what the call of an ordered map does; it refuses for no breach; and entries come out even at each call.
 pub fn rules_stand<K, V>()
     ensures sound { RuleSound K V }
     ensures means { RuleMeans K V }
+    ensures numbers { RuleNumbers K V }
     ensures even { RuleEven K V }
 {}
 

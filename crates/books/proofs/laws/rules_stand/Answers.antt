@@ -1,4 +1,5 @@
 use Rattle.books.proofs.Ruling.{rule_sound, rule_means, rule_even}
+use Rattle.books.proofs.Numbering.{rule_numbers}
 use Rattle.books.proofs.laws.rules_stand.Goals as goal
 
 pub returns-clause-sound : goal.returns-clause-sound
@@ -9,3 +10,6 @@ returns-clause-means g c = rule_means
 
 pub returns-clause-even : goal.returns-clause-even
 returns-clause-even g c = rule_even
+
+pub returns-clause-numbers : goal.returns-clause-numbers
+returns-clause-numbers g c = rule_numbers
