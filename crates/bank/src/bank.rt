@@ -49,6 +49,7 @@ impl<S: Supply> Bank<S> {
     ghost use Rattle.books.specs.declared.places.Place.TheVariants as Place;
     ghost use Rattle.bank.specs.Layout.{Unused, LaysOut};
     ghost use Rattle.bank.specs.Fitting.{FitsBank, coded};
+    ghost use Rattle.books.specs.Places.{NamedPlace};
 
     /// Refuses tables that do not fit together, or are not of the bank's size.
     fn fit(&self, heads: usize, keys: usize, values: usize) -> Result<(), Refusal>
@@ -84,6 +85,13 @@ impl<S: Supply> Bank<S> {
         ensures { result.now ≡ self.now.supply }
     {
         &self.supply
+    }
+
+    /// What stands in a place, if there is such a one.
+    pub fn place(&self, at: usize) -> Option<Place>
+        ensures { NamedPlace self.now.register.places at result }
+    {
+        self.register.place(at)
     }
 
     /// Lays out the tables: takes over their size, and makes every place bare.

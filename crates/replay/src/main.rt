@@ -1,12 +1,13 @@
-//! Performs a script of calls on sixteen books of one supply, and prints an answer a line: for comparison with the original map.
+//! Performs a script of calls on a bank, and prints an answer a line: for comparison with the original map.
 #![tactic(auto)]
 
 mod desk;
+mod reply;
 mod script;
 mod shape;
 
 use desk::Desk;
-use script::Call;
+use script::Line;
 use std::env;
 use std::io::{BufRead, BufReader};
 
@@ -21,10 +22,10 @@ fn size_asked(rt: &HostRuntime) -> anyhow::Result<u16> {
 fn main(rt: HostRuntime) -> anyhow::Result<()> {
     let heap = rt.alloc();
     let mut desk = Desk::new(heap, size_asked(&rt)?)?;
-    for line in BufReader::new(heap, rt.stdin())?.lines(heap) {
-        let call = line?.parse::<Call>()?;
-        match desk.perform(heap, call)? {
-            Ok(answer) => println!(rt; "{answer}")?,
+    for text in BufReader::new(heap, rt.stdin())?.lines(heap) {
+        let line = text?.parse::<Line>()?;
+        match desk.perform(&line) {
+            Ok(reply) => println!(rt; "{reply}")?,
             Err(refusal) => println!(rt; "{refusal}")?,
         }
     }

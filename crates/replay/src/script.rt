@@ -1,42 +1,42 @@
 //! Lines of a script: a letter, and numbers one blank apart.
 
+use books::calls::Call;
+use node::ends::Side;
+use order::blend::BlendNumber;
 use std::error::Error;
 use std::fmt;
 use std::str::FromStr;
 
-/// One call of a script, with its places, key and value.
+/// A call on books of blends, each with a number.
+pub type BlendCall = Call<BlendNumber, u32, BlendNumber>;
+
+/// What a line asks for.
 #[derive(Clone, Copy, Debug, PartialEq, Eq)]
-pub enum Call {
-    Put(usize, u32, u32),
-    LookUp(usize, u32),
-    Cut(usize, usize, u32),
-    Open(usize),
-    Next(usize),
-    NextBack(usize),
-    Close(usize),
-    Release(usize),
-    Shape(usize),
-    Count(usize),
+pub enum Line {
+    Call(BlendCall),
+    /// The shape of what stands in a place.
+    Shape { place: usize },
+    /// How many nodes are out.
     Out,
 }
 
-/// A line that spells no call.
+/// A line that asks for nothing.
 #[derive(Clone, Copy, Debug, PartialEq, Eq)]
-pub struct NoCall;
+pub struct NoLine;
 
-impl fmt::Display for NoCall {
+impl fmt::Display for NoLine {
     fn fmt<W: fmt::Write>(&self, f: &mut fmt::Formatter<W>) -> fmt::Result {
         f.write_str("a line that is no call")
     }
 }
 
-impl Error for NoCall {}
+impl Error for NoLine {}
 
-impl FromStr for Call {
-    type Err = NoCall;
+impl FromStr for Line {
+    type Err = NoLine;
 
     /// A letter, and up to three numbers, each behind a blank: 0 for those that are not there. Blanks may follow.
-    fn from_str(line: &str) -> Result<Call, NoCall> {
+    fn from_str(line: &str) -> Result<Line, NoLine> {
         let mut fields = line.split(' ');
         let name = fields.next();
         let mut numbers = [0; 3];
@@ -44,31 +44,57 @@ impl FromStr for Call {
             *number = number_in(field)?;
         }
         if !fields.all(|field| field.is_empty()) {
-            return Err(NoCall);
+            return Err(NoLine);
         }
-        let [a, b, c] = numbers;
+        let [first, second, third] = numbers;
+        let place = first as usize;
         match name {
-            Some("p") => Ok(Call::Put(a as usize, b, c)),
-            Some("g") => Ok(Call::LookUp(a as usize, b)),
-            Some("c") => Ok(Call::Cut(a as usize, b as usize, c)),
-            Some("w") => Ok(Call::Open(a as usize)),
-            Some("n") => Ok(Call::Next(a as usize)),
-            Some("b") => Ok(Call::NextBack(a as usize)),
-            Some("e") => Ok(Call::Close(a as usize)),
-            Some("r") => Ok(Call::Release(a as usize)),
-            Some("s") => Ok(Call::Shape(a as usize)),
-            Some("l") => Ok(Call::Count(a as usize)),
-            Some("f") => Ok(Call::Out),
-            _ => Err(NoCall),
+            Some("s") => Ok(Line::Shape { place }),
+            Some("f") => Ok(Line::Out),
+            Some(name) => call_named(name, place, second, third).map(Line::Call),
+            None => Err(NoLine),
         }
     }
 }
 
+/// The call of a letter on a place, with two more numbers.
+fn call_named(name: &str, place: usize, second: u32, third: u32) -> Result<BlendCall, NoLine> {
+    match name {
+        "p" => Ok(Call::Insert {
+            place,
+            key: BlendNumber::from(second),
+            value: third,
+        }),
+        "g" => Ok(Call::Lookup {
+            place,
+            query: BlendNumber::from(second),
+        }),
+        "c" => Ok(Call::Cut {
+            place,
+            other: second as usize,
+            query: BlendNumber::from(third),
+        }),
+        "w" => Ok(Call::Open { place }),
+        "n" => Ok(Call::Step {
+            place,
+            side: Side::First,
+        }),
+        "b" => Ok(Call::Step {
+            place,
+            side: Side::Last,
+        }),
+        "e" => Ok(Call::Close { place }),
+        "r" => Ok(Call::Release { place }),
+        "l" => Ok(Call::Count { place }),
+        _ => Err(NoLine),
+    }
+}
+
 /// The number that some digits spell: 0 for none, and the greatest where it is too great.
-fn number_in(digits: &str) -> Result<u32, NoCall> {
+fn number_in(digits: &str) -> Result<u32, NoLine> {
     let mut number = 0u32;
     for c in digits.chars() {
-        let digit = c.to_digit(10).ok_or(NoCall)?;
+        let digit = c.to_digit(10).ok_or(NoLine)?;
         number = number.saturating_mul(10).saturating_add(digit);
     }
     Ok(number)

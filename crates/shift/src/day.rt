@@ -40,7 +40,7 @@ pub fn supplies(rt: &impl Print) -> io::Result<()> {
     print_errands(rt, "bitmap", &mut Bitmap::new(5), &MORNING)
 }
 
-fn batch(number: u32, grams: u32, hopper: u8) -> BatchRecord
+pub fn batch(number: u32, grams: u32, hopper: u8) -> BatchRecord
     ensures { (result.blend.number ≡ number) × (result.grams ≡ grams) × (result.hopper ≡ hopper) }
 {
     BatchRecord {

@@ -1,15 +1,22 @@
-//! A shift on paper: the card of the node supplies, and the day's batches looked up.
+//! A shift on paper: the batch books of a day, the card of the node supplies, and the day's batches looked up.
 #![tactic(auto)]
 
 mod batches;
+mod blending;
 mod card;
 mod day;
+mod lines;
+mod works;
 
-use std::io;
+use supply::bits::Bitmap;
+use supply::links::Chain;
 
-fn main(rt: HostRuntime) -> io::Result<()> {
+fn main(rt: HostRuntime) -> anyhow::Result<()> {
+    blending::print_shift(&rt, "chain", Chain::new(5))?;
+    blending::print_shift_card(&rt, "bitmap", Bitmap::new(5))?;
     day::supplies(&rt)?;
     day::batches_by_stamp(&rt)?;
     day::doses_by_mark(&rt)?;
-    day::last_batches_by_blend(&rt)
+    day::last_batches_by_blend(&rt)?;
+    Ok(())
 }

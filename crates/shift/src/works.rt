@@ -1,0 +1,88 @@
+//! A blending works: the bank of its batch books, with the tables that they stand in.
+
+use bank::bank::Bank;
+use books::calls::{Answer, Call};
+use books::refusals::Refusal;
+use node::head::{CAPACITY, Head, NULL};
+use order::blend::BlendNumber;
+use order::keys::{KeyOrder, Placing};
+use order::stamp::BatchStamp;
+use order::values::BatchRecord;
+use supply::Supply;
+
+/// How many nodes the tables have.
+pub const NODES: usize = 5;
+
+const CELLS: usize = CAPACITY * NODES;
+
+/// A call on a batch book.
+pub type BatchCall = Call<BatchStamp, BatchRecord, BatchStamp>;
+
+/// What a call on a batch book answers.
+pub type BatchAnswer = Answer<BatchStamp, BatchRecord>;
+
+/// What stands in a table before it is used.
+const NO_NODE: Head = Head {
+    parent: NULL,
+    place: 0,
+    len: 0,
+    edges: [NULL; 12],
+};
+
+const NO_STAMP: BatchStamp = BatchStamp { day: 0, number: 0 };
+
+const NO_BATCH: BatchRecord = BatchRecord {
+    blend: BlendNumber { number: 0 },
+    grams: 0,
+    hopper: 0,
+};
+
+/// The bank and its tables.
+#[derive(Drop)]
+pub struct Works<S> {
+    pub heads: [Head; NODES],
+    pub keys: [BatchStamp; CELLS],
+    pub values: [BatchRecord; CELLS],
+    pub bank: Bank<S>,
+}
+
+impl<S: Supply> Works<S> {
+    ghost use Rattle.std.specs.Prelude.{◌≡◌};
+    ghost use Rattle.books.specs.Rules.{asked};
+    ghost use Rattle.bank.specs.Calls.{told, itself, Performs};
+    ghost use Rattle.bank.specs.Fitting.{coded};
+    ghost use Rattle.bank.specs.Layout.{LaysOut};
+    ghost use Rattle.shift.specs.Books.{books_of};
+
+    /// A works over a supply, whose tables are to be laid out first.
+    pub fn new(supply: S) -> Works<S>
+        ensures { S.stock result.bank.supply ≡ S.stock supply }
+    {
+        Works {
+            heads: [NO_NODE; NODES],
+            keys: [NO_STAMP; CELLS],
+            values: [NO_BATCH; CELLS],
+            bank: Bank::new(supply),
+        }
+    }
+
+    /// Lays out the tables, with sixteen bare books.
+    pub fn lay_out(&mut self) -> Result<(), Refusal>
+        ensures { LaysOut ⟦<BatchStamp as KeyOrder>⟧.compares (books_of S.stock self.old) (books_of S.stock self.new) (coded result) }
+    {
+        self.bank.lay_out(&self.heads, &self.keys, &self.values)
+    }
+
+    /// Performs a call on the books.
+    pub fn perform(&mut self, call: &BatchCall) -> Result<BatchAnswer, Refusal>
+        ensures { Performs ⟦<BatchStamp as KeyOrder>⟧.compares (asked ⟦<BatchStamp as Placing<BatchStamp>>⟧.places call.now) (books_of S.stock self.old) (books_of S.stock self.new) (told itself result) }
+    {
+        let Works {
+            heads,
+            keys,
+            values,
+            bank,
+        } = self;
+        bank.perform(heads, keys, values, call)
+    }
+}
