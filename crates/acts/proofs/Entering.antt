@@ -1,13 +1,12 @@
 -- An entry put in at a place.
-use Rattle.std.proofs.Common.{◌≡◌, ℕ, ◌+◌, ◌<◌, ◌≤◌, true, false, cond, Bool, inl, inr, List, [], ◌∷◌, length, Some, None, Ok, Err, Option, Result, refl, sym, ap, ◌∙◌, subst, arith, nat_lt}
+use Rattle.std.proofs.Common.{◌≡◌, ℕ, ◌+◌, ◌<◌, ◌≤◌, cond, Bool, inl, inr, List, [], ◌∷◌, length, Some, None, Ok, Err, Option, Result, refl, sym, ap, ◌∙◌, subst, arith, nat_lt}
 use Rattle.std.proofs.lemmas.Bool.{cases_lt, lt-ltb, le-ltb}
 use Rattle.std.specs.declared.cmp.Ordering.{Ordering}
 use Rattle.supply.specs.declared.faults.Fault.{Fault}
-use Rattle.supply.specs.declared.faults.Fault.TheVariants.{Short}
 use Rattle.supply.specs.Stocks.{Stock}
 use Rattle.order.specs.Laws.{Ordered}
 use Rattle.node.specs.declared.nodes.NodeRef.{NodeRef}
-use Rattle.node.specs.Balance.{Unchanged, Rooted, Balanced}
+use Rattle.node.specs.Balance.{Rooted, Balanced}
 use Rattle.node.specs.Kinds.{root_of}
 use Rattle.node.specs.Shape.{Tree, number, flat, mk, Within}
 use Rattle.node.specs.Store.{Tables, Holds, first, second}
@@ -26,12 +25,12 @@ use Rattle.insertion.specs.Roots.{Begins, Begun, Planted, Enters, Entered}
 use Rattle.books.specs.declared.places.Place.{Place}
 use Rattle.books.specs.declared.places.Place.TheVariants as P
 use Rattle.books.specs.declared.calls.Answer.TheVariants.{Inserted}
-use Rattle.books.specs.Books.{Book, bare, planted, entries, TreeAt}
+use Rattle.books.specs.Books.{bare, planted, entries, TreeAt}
 use Rattle.books.specs.Faults.{fault_code}
 use Rattle.books.specs.declared.calls.Answer.{Answer}
 use Rattle.books.specs.Refusals.{Code}
 use Rattle.books.specs.Runs.{inserted, handed, dropped}
-use Rattle.books.specs.Rules.{Part, within, insert_in, put_in, beside_key}
+use Rattle.books.specs.Rules.{Part, insert_in, put_in, beside_key}
 use Rattle.map.specs.Lookup.{seek}
 use Rattle.acts.specs.Acts.{Acts, Counts, InsertsBy, InsertsIn}
 use Rattle.acts.proofs.Views.{bare_book, ready_tree}
@@ -74,7 +73,6 @@ module _ {K V : Type 0} (compares : K → K → Ordering) (T T' : Tables K V) (S
   unfolding InsertsIn
   refuses_bare n f d b r m = subst (λ b'. InsertsBy compares T T' S S' e b' (Err f)) (sym (bare_book compares T p b n m r.at).1) (begun_short f (d r.sized r.fits))
 
-
 -- the count that the rule's answer wants
 counted : {K V : Type 0} (count : ℕ) (old : Option V) (n : ℕ) (l l' : List (K × V)) → Counts count old n → count ≤ 45056 → count ≡ length l → (o : Result (Answer K V) Code) → o ≡ Ok (Inserted old)
     → length l' + (handed o + dropped o) ≡ length l + inserted o → n ≡ length l'
@@ -96,7 +94,7 @@ module _ {K V : Type 0} (compares : K → K → Ordering) (T T' : Tables K V) (S
       go (Some x) q = absurd (err_not_ok _ _ (d.replaced x q).0)
       go None q =
           elim (cases_lt S.allowance (need (λ y. is_gt (beside_key compares e y)) root.height t)) [
-            inl l ↦ let u = d.declined q l in (where_sought (λ _. 0) 0 root.height t None q ∙ lacks _ S.allowance _ _ l ∙ ap (λ y. (Err (fault_code y), planted root.height t)) (sym (err_same _ _ u.0)), u.1)
+            | inl l ↦ let u = d.declined q l in (where_sought (λ _. 0) 0 root.height t None q ∙ lacks _ S.allowance _ _ l ∙ ap (λ y. (Err (fault_code y), planted root.height t)) (sym (err_same _ _ u.0)), u.1)
             | inr l ↦ absurd (err_not_ok _ _ (d.granted q l).2)
           ]
 
@@ -106,7 +104,6 @@ module _ {K V : Type 0} (compares : K → K → Ordering) (T T' : Tables K V) (S
       let v = ready_tree compares T S root count p b' q r in
       subst (λ c. InsertsBy compares T T' S S' e c (Err f)) (sym v.book_is)
       (short_tree v.tree f (d v.tree v.owns (subst (λ n. Rooted T n) v.node_is v.here.rooted) v.node_is v.low))
-
 
   -- ---- granted
 
@@ -137,12 +134,14 @@ module _ {K V : Type 0} (compares : K → K → Ordering) (T T' : Tables K V) (S
         record {
           fresh = λ _. 0;
           top = 0;
-          acts = subst (λ o. Acts compares T T' S S' (planted root.height t) Inserted o (Ok (P.Tree (root_of (root.height, t)) n, Some (second x)))) (sym g)
-              (refl, record {
-                at = subst (λ k. TreeAt compares T' (record { node = k; height = root.height }) n root.height t') m v;
-                beside = w.beside;
-                balanced = subst (λ Z. Balanced S Z (λ y. occurs y root.height t) (λ y. occurs y root.height t')) (sym w.stock_same) (balanced_as S S (λ _. 0) (λ _. 0) (λ y. occurs y root.height t) (λ y. occurs y root.height t') (λ y. omega (arith, kept (same y))) (balanced_none S (λ _. 0)));
-              });
+          acts = subst (λ o. Acts compares T T' S S' (planted root.height t) Inserted o (Ok (P.Tree (root_of (root.height, t)) n, Some (second x)))) (sym g) (
+            refl,
+            record {
+              at = subst (λ k. TreeAt compares T' (record { node = k; height = root.height }) n root.height t') m v;
+              beside = w.beside;
+              balanced = subst (λ Z. Balanced S Z (λ y. occurs y root.height t) (λ y. occurs y root.height t')) (sym w.stock_same) (balanced_as S S (λ _. 0) (λ _. 0) (λ y. occurs y root.height t) (λ y. occurs y root.height t') (λ y. omega (arith, kept (same y))) (balanced_none S (λ _. 0)));
+            },
+          );
         }
 
     put : (fresh : ℕ → ℕ) (top n : ℕ) → Counts {V = V} count None n → seek (beside_key compares e) root.height t ≡ None → need (λ y. is_gt (beside_key compares e y)) root.height t ≤ S.allowance
@@ -169,7 +168,7 @@ module _ {K V : Type 0} (compares : K → K → Ordering) (T T' : Tables K V) (S
         go (Some x) q = let u = d.replaced x q in goes u.0 (λ m k. replaced x m k q u.1 r) c
         go None q =
             elim (cases_lt S.allowance (need (λ y. is_gt (beside_key compares e y)) root.height t)) [
-              inl l ↦ absurd (err_not_ok _ _ (sym (d.declined q l).0))
+              | inl l ↦ absurd (err_not_ok _ _ (sym (d.declined q l).0))
               | inr l ↦ let u = d.granted q l in goes u.2 (λ m k. put u.0 u.1 m k q l u.3) c
             ]
 

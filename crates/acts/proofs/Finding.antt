@@ -1,15 +1,14 @@
 -- A lookup at a place.
-use Rattle.std.proofs.Common.{◌≡◌, ℕ, ◌+◌, ◌*◌, ◌≤◌, true, false, length, Some, None, Ok, Option, Result, MatchResult, refl, sym, ap, ◌∙◌, subst, arith}
+use Rattle.std.proofs.Common.{◌≡◌, ℕ, ◌≤◌, None, Ok, Option, Result, MatchResult, refl, sym, ap, subst}
 use Rattle.std.specs.declared.cmp.Ordering.{Ordering}
 use Rattle.supply.specs.declared.faults.Fault.{Fault}
-use Rattle.supply.specs.Stocks.{Stock}
 use Rattle.node.specs.declared.nodes.NodeRef.{NodeRef}
 use Rattle.node.specs.Shape.{Tree}
-use Rattle.node.specs.Store.{Tables, Holds, first}
+use Rattle.node.specs.Store.{Tables, first}
 use Rattle.map.specs.Lookup.{Seeks, seek, looks, value_of}
 use Rattle.books.specs.declared.places.Place.{Place}
 use Rattle.books.specs.declared.places.Place.TheVariants as P
-use Rattle.books.specs.Books.{Book, planted}
+use Rattle.books.specs.Books.{planted}
 use Rattle.books.specs.Rules.{Query, lookup_in}
 use Rattle.acts.specs.Acts.{LooksIn, found}
 use Rattle.acts.proofs.Views.{bare_book, ready_tree}

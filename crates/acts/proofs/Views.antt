@@ -1,11 +1,11 @@
 -- What a place holds, by its kind.
-use Rattle.std.proofs.Common.{◌≡◌, ℕ, ◌+◌, ◌*◌, ◌≤◌, true, false, length, None, ◌<◌, refl, sym, ap, ◌∙◌, subst, arith}
+use Rattle.std.proofs.Common.{◌≡◌, ℕ, ◌≤◌, true, length, None, ◌<◌, refl, sym, ap, ◌∙◌, subst, arith}
 use Rattle.std.specs.declared.cmp.Ordering.{Ordering}
 use Rattle.supply.specs.Stocks.{Stock, size_of}
 use Rattle.node.specs.declared.nodes.NodeRef.{NodeRef}
-use Rattle.node.specs.Balance.{mark, Owns, Rooted}
-use Rattle.node.specs.Laws.{occurs, Distinct}
-use Rattle.node.specs.Shape.{Tree, number, flat, Formed, root_least}
+use Rattle.node.specs.Balance.{mark, Owns}
+use Rattle.node.specs.Laws.{occurs}
+use Rattle.node.specs.Shape.{Tree, number, root_least}
 use Rattle.node.specs.Store.{Tables, Sized}
 use Rattle.node.proofs.Balances.{mark_most}
 use Rattle.node.proofs.Frames.{held_low}
@@ -13,11 +13,9 @@ use Rattle.node.proofs.Numbers.{few_nodes}
 use Rattle.walk.proofs.Closing.{flat_few, out_inside}
 use Rattle.walk.proofs.Opening.{whole_shown}
 use Rattle.walk.specs.Window.{bounds}
-use Rattle.walk.specs.declared.walks.Walk.{Walk}
-use Rattle.walk.specs.Walks.{Walks, no_walk}
 use Rattle.books.specs.declared.places.Place.{Place}
 use Rattle.books.specs.declared.places.Place.TheVariants as P
-use Rattle.books.specs.Books.{Book, bare, planted, walked, idle, uses, BookAt, TreeAt, WalkAt}
+use Rattle.books.specs.Books.{Book, bare, planted, walked, idle, uses, BookAt, TreeAt}
 use Rattle.books.specs.Meaning.{Sound}
 use Rattle.books.specs.Rules.{kind_of, is_map}
 use Rattle.acts.specs.Acts.{Ready}

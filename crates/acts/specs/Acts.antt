@@ -19,7 +19,6 @@ use Rattle.books.specs.declared.calls.Answer.{Answer}
 use Rattle.books.specs.declared.calls.Answer.TheVariants.{Inserted, Found, Parted, Opened, Handed, Dropped}
 use Rattle.books.specs.Books.{Book, bare, uses, BookAt}
 use Rattle.books.specs.Faults.{fault_code}
-use Rattle.books.specs.Refusals.{Code}
 use Rattle.books.specs.Rules.{Query, Part, Parts, kind_of, is_map, insert_in, lookup_in, cut_in, open_in, step_in, drop_in}
 
 pub record Ready {K V : Type 0} (compares : K → K → Ordering) (T : Tables K V) (S : Stock) (p : Place) (b : Book (K × V)) : Type 0 where

@@ -1,13 +1,13 @@
 //! An entry put into the book of a place.
 
+ghost use Rattle.node.specs.Store.{tables};
+ghost use Rattle.acts.specs.Acts.{Counts, InsertsIn};
+
 use books::places::Place;
 use insertion::root::{insert_first, try_insert};
 use node::head::Head;
 use order::keys::KeyOrder;
 use supply::{Fault, Supply};
-
-ghost use Rattle.node.specs.Store.{tables};
-ghost use Rattle.acts.specs.Acts.{Counts, InsertsIn};
 
 /// How many entries a tree of `count` has with one put in, which answered `old`.
 fn count_with<V: Copy>(count: usize, old: Option<V>) -> usize

@@ -1,4 +1,5 @@
 //! What each call does at one place: the answer, and what stands there afterwards.
+#![tactic(auto)]
 
 pub mod cutting;
 pub mod inserting;

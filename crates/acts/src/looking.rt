@@ -1,12 +1,12 @@
 //! A key looked up in the book of a place.
 
+ghost use Rattle.acts.specs.Acts.{LooksIn};
+
 use books::places::Place;
 use map::search::search_tree;
 use node::tables::Tables;
 use order::keys::{KeyOrder, Placing, Query};
 use supply::Fault;
-
-ghost use Rattle.acts.specs.Acts.{LooksIn};
 
 /// The value under the key that is the same as the query, in a bare place or a tree, and the comparisons made.
 pub fn lookup_in<K: KeyOrder, V: Copy, Q: Query<K>>(

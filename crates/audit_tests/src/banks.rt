@@ -158,10 +158,7 @@ fn a_walk_is_in_form_at_each_step(rt: HostRuntime) -> Result<(), Fail> {
         assert!(rt; audit(&tables, 3, &with(Place::Walk(walk)), &supply));
     }
     assert!(rt; !supply.is_out(0));
-    let more = Walk {
-        left: 5,
-        ..walk
-    };
+    let more = Walk { left: 5, ..walk };
     assert!(rt; !audit(&tables, 3, &with(Place::Walk(more)), &supply));
     let other = Walk {
         front: walk.back,

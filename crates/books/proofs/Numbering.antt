@@ -1,9 +1,8 @@
 -- Which numbers refusals have. Assumes nothing.
-use Rattle.std.proofs.Common.{◌≡◌, ℕ, ◌+◌, Bool, true, false, cond, List, [], ◌∷◌, length, nat_lt, nat_eq, inl, inr, ◌⊎◌, Some, None, Ok, Err, Option, Result, refl, ap, subst}
+use Rattle.std.proofs.Common.{◌≡◌, ℕ, ◌+◌, Bool, true, cond, List, [], ◌∷◌, nat_lt, nat_eq, inl, inr, Some, None, Ok, Err, Option, Result, refl, subst}
 use Rattle.std.proofs.lemmas.Bool.{cond_both}
 use Rattle.std.proofs.lemmas.Option.{none-some}
 use Rattle.std.specs.declared.cmp.Ordering.{Ordering}
-use Rattle.std.specs.Ordering.{is_gt}
 use Rattle.node.specs.declared.ends.Side.{Side}
 use Rattle.node.specs.Shape.{Tree, flat}
 use Rattle.map.specs.Lookup.{seek}
@@ -13,7 +12,7 @@ use Rattle.books.specs.declared.calls.Call.TheVariants.{Insert, Lookup, Count, C
 use Rattle.books.specs.Books.{Book, bare, planted, walked, idle, book_in}
 use Rattle.books.specs.Laws.{RuleNumbers, Numbered}
 use Rattle.books.specs.Refusals.{Code}
-use Rattle.books.specs.Rules.{Asked, Query, Kind, Part, Parts, kind_of, is_map, is_walk, is_bare, check, check_one, check_two, checked, act, no_place, wrong_kind, insert_in, put_in, lookup_in, cut_in, part_tree, open_in, step_in, handed_in, beside_key}
+use Rattle.books.specs.Rules.{Asked, Query, Kind, kind_of, is_map, is_walk, is_bare, check, check_one, checked, act, no_place, wrong_kind, insert_in, put_in, lookup_in, cut_in, part_tree, open_in, step_in, handed_in, beside_key}
 use Rattle.books.proofs.Keeping.{ok_err}
 
 err_same : {X : Type 0} (d e : Code) → ◌≡◌ {A = Result X Code} (Err d) (Err e) → d ≡ e

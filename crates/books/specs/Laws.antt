@@ -1,5 +1,5 @@
 -- Theorems on the rules of the calls.
-use Rattle.std.specs.Prelude.{◌≡◌, ℕ, ◌+◌, ◌⊎◌, List, ◌∷◌, length, Err, All}
+use Rattle.std.specs.Prelude.{◌≡◌, ℕ, ◌+◌, ◌⊎◌, List, length, Err, All}
 use Rattle.std.specs.declared.cmp.Ordering.{Ordering}
 use Rattle.supply.specs.Stocks.{Stock}
 use Rattle.order.specs.Laws.{Ordered}
@@ -7,7 +7,7 @@ use Rattle.books.specs.Books.{Book}
 use Rattle.books.specs.Refusals.{Code}
 use Rattle.books.specs.Rules.{Asked, rule}
 use Rattle.books.specs.Meaning.{Sound, Agreeing, Means}
-use Rattle.books.specs.Runs.{Event, Next, Runs, count_all, inserted, handed, dropped, Even, Low}
+use Rattle.books.specs.Runs.{Event, Runs, count_all, inserted, handed, dropped, Even, Low}
 
 -- sound books stay sound, sixteen of them
 abbrev pub RuleSound : Type 0 → Type 0 → Type 0

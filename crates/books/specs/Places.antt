@@ -1,7 +1,7 @@
 -- The places of a register.
 --   place_in ps p       what stands in place p
 --   NamedPlace ps p r   what a question for place p answers: there is none above 15
-use Rattle.std.specs.Prelude.{◌≡◌, ℕ, ◌<◌, ◌≤◌, List, length, Some, None, Option, MatchOption, slice_index_or}
+use Rattle.std.specs.Prelude.{◌≡◌, ℕ, ◌<◌, ◌≤◌, List, length, Option, MatchOption, slice_index_or}
 use Rattle.books.specs.declared.places.Place.{Place}
 use Rattle.books.specs.declared.places.Place.TheVariants.{Bare}
 

@@ -7,7 +7,7 @@
 --   within n a b o     the outcome o, or the refusal of n nodes where only a may be taken, with the book b as it was
 --   rule fresh top a c bs   the outcome of call c where a nodes may be taken; `fresh` has the numbers that it takes, by height, and
 --                      `top` the one for a new root
-use Rattle.std.specs.Prelude.{◌≡◌, ℕ, ◌+◌, Bool, true, false, cond, List, [], ◌∷◌, length, Some, None, Ok, Err, Option, Result, nat_lt, nat_le, nat_eq, slice_set}
+use Rattle.std.specs.Prelude.{ℕ, ◌+◌, Bool, true, false, cond, List, [], ◌∷◌, length, Some, None, Ok, Err, Option, Result, nat_lt, nat_eq, slice_set}
 use Rattle.std.specs.declared.cmp.Ordering.{Ordering}
 use Rattle.std.specs.Ordering.{is_gt}
 use Rattle.node.specs.declared.ends.Side.{Side}

@@ -7,15 +7,15 @@
 --   inserted, handed, dropped   the entries that the calls newly inserted, that steps handed out, and that were reported dropped
 --   Even past bs       the entries come out even
 --   Low bs             no tree with entries is higher than 2 · 5^h ≤ n + 1 allows
-use Rattle.std.specs.Prelude.{◌≡◌, ℕ, ◌+◌, ◌*◌, ◌^◌, ◌≤◌, List, [], ◌∷◌, length, replicate, Some, None, Ok, Err, Result}
+use Rattle.std.specs.Prelude.{◌≡◌, ℕ, ◌+◌, ◌*◌, ◌^◌, ◌≤◌, List, [], ◌∷◌, length, replicate, Some, None, Ok, Result}
 use Rattle.std.specs.declared.cmp.Ordering.{Ordering}
 use Rattle.supply.specs.Stocks.{Stock, size_of, outs_of}
 use Rattle.node.specs.Shape.{Tree, flat, total}
 use Rattle.books.specs.declared.calls.Answer.{Answer}
-use Rattle.books.specs.declared.calls.Answer.TheVariants.{Inserted, Found, Counted, Parted, Opened, Handed, Dropped, Audited}
+use Rattle.books.specs.declared.calls.Answer.TheVariants.{Inserted, Handed, Dropped}
 use Rattle.books.specs.Books.{Book, bare, planted, entries, book_in}
 use Rattle.books.specs.Refusals.{Code}
-use Rattle.books.specs.Rules.{Asked, Outcome, outcome, rule}
+use Rattle.books.specs.Rules.{Asked, outcome, rule}
 use Rattle.books.specs.States.{State, Models}
 
 pub record Event (K V : Type 0) : Type 0 where

@@ -3,7 +3,7 @@
 --   Models s bs        each place holds its book, the counts and the order are true, and the numbers out are exactly the nodes of the books,
 --                      each in one alone; where the bank has nodes, it has as many as the supply has numbers
 --   GoodForm s         there are such books
-use Rattle.std.specs.Prelude.{◌≡◌, ℕ, ◌<◌, ◌≤◌, List, length}
+use Rattle.std.specs.Prelude.{◌≡◌, ℕ, ◌<◌, List, length}
 use Rattle.std.specs.declared.cmp.Ordering.{Ordering}
 use Rattle.supply.specs.Stocks.{Stock, size_of}
 use Rattle.node.specs.Balance.{mark}

@@ -1,7 +1,4 @@
-use Rattle.std.proofs.Common.{◌≡◌, refl, ap, Ok}
 use Rattle.std.proofs.lemmas.Result.{err_from_is_err_and}
-use Rattle.node.specs.Store.{tables}
-use Rattle.acts.specs.Acts.{InsertsIn}
 use Rattle.acts.proofs.Entering.{inserts_bare, refuses_bare, refuses_tree, inserts_tree}
 use Rattle.acts.proofs.inserting.insert_in.Goals as goal
 

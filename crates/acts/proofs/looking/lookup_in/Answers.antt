@@ -1,6 +1,3 @@
-use Rattle.std.proofs.Common.{◌≡◌, refl}
-use Rattle.acts.specs.Acts.{LooksIn}
-use Rattle.acts.proofs.Views.{bare_book, tree_book}
 use Rattle.acts.proofs.Finding.{looks_nowhere, looks_tree}
 use Rattle.acts.proofs.looking.lookup_in.Goals as goal
 
