@@ -1,5 +1,4 @@
 -- Several calls, one after the other.
---   answers rs        the answers of calls, with refusals by their numbers and values
 --   history cs rs past    these calls with their answers, the last one first, and the calls before them
 --   MetAll            on books that model the bank: it models other books, to which the calls with these answers led; over every run up to here the
 --                     entries come out even, and no tree is too high

@@ -2,7 +2,6 @@
 --   Event              a call with its answer
 --   Next ev S bs S' bs'   the books and the supply after a call, as its rule gives them: no number is lost or made
 --   Runs past S bs     these calls, one after the other from sixteen bare places on, led to these books and this supply
---   Reached past s     so did they to this bank with its tables
 --   count_all bs       the entries in all books
 --   inserted, handed, dropped   the entries that the calls newly inserted, that steps handed out, and that were reported dropped
 --   Even past bs       the entries come out even
@@ -16,7 +15,6 @@ use Rattle.books.specs.declared.calls.Answer.TheVariants.{Inserted, Handed, Drop
 use Rattle.books.specs.Books.{Book, bare, planted, entries, book_in}
 use Rattle.books.specs.Refusals.{Code}
 use Rattle.books.specs.Rules.{Asked, outcome, rule}
-use Rattle.books.specs.States.{State, Models}
 
 pub record Event (K V : Type 0) : Type 0 where
   pub call : Asked K V
@@ -59,7 +57,3 @@ Even past bs = count_all bs + (sum_of handed past + sum_of dropped past) ≡ sum
 
 abbrev pub Low : {E : Type 0} → List (Book E) → Type 0
 Low {E} bs = (p h : ℕ) (t : Tree E) → book_in bs p ≡ planted h t → 1 ≤ length (flat h t) → 2 * 5 ^ h ≤ length (flat h t) + 1
-
-pub record Reached {K V : Type 0} (compares : K → K → Ordering) (past : List (Event K V)) (s : State K V) (bs : List (Book (K × V))) : Type 0 where
-  pub models : Models compares s bs
-  pub runs : Runs compares past s.stock bs
