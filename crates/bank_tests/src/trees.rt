@@ -346,3 +346,35 @@ fn two_books_stay_apart(rt: HostRuntime) -> Result<(), Fail> {
     }
     Ok(())
 }
+
+/// Calls in a list are performed in turn, refused ones too, until the list of answers is full: here one call before the last.
+#[test]
+fn lists_of_calls_are_performed_in_turn(rt: HostRuntime) -> Result<(), Fail> {
+    let mut desk = Desk::new(rt.alloc(), Chain::new(3), false)?;
+    let calls = [
+        insert(0, 1),
+        insert(0, 1),
+        lookup(0, 1),
+        release(16),
+        open(0),
+        next(0),
+        close(0),
+    ];
+    let mut answers = [Err(Refusal::Breach); 6];
+    let performed = desk.bank.perform_all(
+        desk.heads.as_mut_slice(),
+        desk.keys.as_mut_slice(),
+        desk.values.as_mut_slice(),
+        &calls,
+        &mut answers,
+    );
+    assert_eq!(rt; performed, 6);
+    assert_eq!(rt; answers[0], Ok(Answer::Inserted(None)));
+    assert_eq!(rt; answers[1], Ok(Answer::Inserted(Some(10))));
+    assert_eq!(rt; answers[2], Ok(Answer::Found(Some(10), 1)));
+    assert_eq!(rt; answers[3], Err(Refusal::Place));
+    assert_eq!(rt; answers[4], Ok(Answer::Opened));
+    assert_eq!(rt; answers[5], handed(1));
+    desk.plays(&rt, &[(count(0), counted(0), 1), (close(0), dropped(0), 0)]);
+    Ok(())
+}

@@ -5,6 +5,7 @@ use crate::day::batch;
 use crate::lines::{Asked, Told};
 use crate::works::{BatchCall, Works};
 use books::calls::Call;
+use books::refusals::Refusal;
 use node::ends::Side;
 use order::stamp::BatchStamp;
 use std::io;
@@ -18,6 +19,9 @@ const NEXT_DAY: usize = 1;
 
 /// The book of the trials.
 const TRIALS: usize = 2;
+
+/// The most calls that are performed as one list.
+const MOST_CALLS: usize = 15;
 
 /// A place that no bank has.
 const NO_BOOK: usize = 16;
@@ -144,9 +148,8 @@ fn print_calls<S: Supply>(
 
 /// Performs the calls in turn, whatever they answer.
 fn perform_all<S: Supply>(works: &mut Works<S>, calls: &[BatchCall]) {
-    for call in calls {
-        let _ = works.perform(call);
-    }
+    let mut answers = [Err(Refusal::Breach); MOST_CALLS];
+    let _ = works.perform_all(calls, &mut answers);
 }
 
 /// Performs the calls of a day, and prints what each answers.

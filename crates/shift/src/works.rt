@@ -52,6 +52,7 @@ impl<S: Supply> Works<S> {
     ghost use Rattle.bank.specs.Calls.{told, itself, Performs};
     ghost use Rattle.bank.specs.Fitting.{coded};
     ghost use Rattle.bank.specs.Layout.{LaysOut};
+    ghost use Rattle.bank.specs.Lists.{PerformsAll, first_calls, first_answers};
     ghost use Rattle.shift.specs.Books.{books_of};
 
     /// A works over a supply, whose tables are to be laid out first.
@@ -84,5 +85,22 @@ impl<S: Supply> Works<S> {
             bank,
         } = self;
         bank.perform(heads, keys, values, call)
+    }
+
+    /// Performs calls in turn, and puts down what each answers, as many as there is room for. Answers how many were performed.
+    pub fn perform_all(
+        &mut self,
+        calls: &[BatchCall],
+        answers: &mut [Result<BatchAnswer, Refusal>],
+    ) -> usize
+        ensures { PerformsAll ⟦<BatchStamp as KeyOrder>⟧.compares (first_calls ⟦<BatchStamp as Placing<BatchStamp>>⟧.places result calls.now) (books_of S.stock self.old) (books_of S.stock self.new) (first_answers result answers.new) }
+    {
+        let Works {
+            heads,
+            keys,
+            values,
+            bank,
+        } = self;
+        bank.perform_all(heads, keys, values, calls, answers)
     }
 }
