@@ -4,14 +4,11 @@
 # FOLDER is as for compare.sh. Prints the nanoseconds of each call (of the shortest round) and the ratios: below 1 the bank is the faster one.
 set -euo pipefail
 here=$(cd "$(dirname "$0")" && pwd)
-source=${1:?the folder of the published source}
+source "$here/build_original.sh"
 rounds=${2:-9}
 work=$(mktemp -d)
 trap 'rm -rf "$work"' EXIT
-cp -r "$here/original" "$work/original"
-cp "$source/boxed.rs" "$source/try_reserve_error.rs" "$work/original/src/"
-cp "$source"/btree/{map,node,search}.rs "$work/original/src/btree/"
-(cd "$work/original" && RUSTC_BOOTSTRAP=1 cargo build --quiet --release --offline --bin bench)
+build_original "${1:?the folder of the published source}" "$work" bench
 (cd "$here/../crates/bench" && rt run > /dev/null 2>&1)
 "$work/original/target/release/bench" "$rounds" > "$work/theirs"
 "$here/../crates/bench/out/bench" "$rounds" | sed 's/^/bank /' > "$work/ours"

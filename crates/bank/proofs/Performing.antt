@@ -45,11 +45,13 @@ module _ {K V : Type 0} {compares : K → K → Ordering} (ordered : Ordered com
   some : 0 < s.size
   some = subst (λ n. 0 < n) (sym fit.size_is) fit.fits.some
 
-  -- the kind of the book in a place that passed
-  book_kind : (f : Kind → Bool) (p : ℕ) → check_one (kinds s.places) f p ≡ None → (bs : List (Book (K × V))) → Models compares s bs → f (kind_of (book_in bs p)) ≡ true
-  book_kind f p q bs m =
-      let o = one_passes (kinds s.places) f p q in
-      subst (λ k. f k ≡ true) (sym (kind_same compares s.tables (place_in s.places p) (book_in bs p) (m.held p o.low))) o.kind
+  -- a place holds its book, of the kind that the place says
+  module _ (p : ℕ) (low : p < 16) (bs : List (Book (K × V))) (m : Models compares s bs) where
+    ready_in : (here : Place) → here ≡ place_in s.places p → Ready compares s.tables s.stock here (book_in bs p)
+    ready_in here h = subst (λ x. Ready compares s.tables s.stock x (book_in bs p)) (sym h) (ready_at compares s bs m some p low)
+
+    kind_in : (f : Kind → Bool) → f (kinds s.places p) ≡ true → f (kind_of (book_in bs p)) ≡ true
+    kind_in f k = subst (λ x. f x ≡ true) (sym (kind_same compares s.tables (place_in s.places p) (book_in bs p) (m.held p low))) k
 
   module _ (T' : Tables K V) (S' : Stock) where
     -- the state with other tables and another supply, and places as they were
@@ -73,10 +75,10 @@ module _ {K V : Type 0} {compares : K → K → Ordering} (ordered : Ordered com
     low = (one_passes (kinds s.places) f p w.pass).low
 
     ready : (bs : List (Book (K × V))) → Models compares s bs → Ready compares s.tables s.stock here (book_in bs p)
-    ready bs m = subst (λ x. Ready compares s.tables s.stock x (book_in bs p)) (sym w.is) (ready_at compares s bs m some p low)
+    ready bs m = ready_in p low bs m here w.is
 
     kind : (bs : List (Book (K × V))) → Models compares s bs → f (kind_of (book_in bs p)) ≡ true
-    kind bs m = book_kind f p w.pass bs m
+    kind bs m = kind_in p low bs m f (one_passes (kinds s.places) f p w.pass).kind
 
   module _ (p : ℕ) (k : K) (v : V) (T' : Tables K V) (S' : Stock) (here : Place) (w : Asked is_map p here) where
     pub inserted_done : (after : Place) (old : Option V) → InsertsIn compares s.tables T' s.stock S' here (k, v) (Ok (after, old))
@@ -136,14 +138,8 @@ module _ {K V : Type 0} {compares : K → K → Ordering} (ordered : Ordered com
     passes : Two (kinds s.places) p o
     passes = two_pass (kinds s.places) p o pass
 
-    cut_ready : (bs : List (Book (K × V))) → Models compares s bs → Ready compares s.tables s.stock here (book_in bs p)
-    cut_ready bs m = subst (λ x. Ready compares s.tables s.stock x (book_in bs p)) (sym h) (ready_at compares s bs m some p passes.low)
-
-    cut_kind : (bs : List (Book (K × V))) → Models compares s bs → is_map (kind_of (book_in bs p)) ≡ true
-    cut_kind bs m = subst (λ k. is_map k ≡ true) (sym (kind_same compares s.tables (place_in s.places p) (book_in bs p) (m.held p passes.low))) passes.kind
-
     second_bare : (bs : List (Book (K × V))) → Models compares s bs → book_in bs o ≡ bare
-    second_bare bs m = bare_is (book_in bs o) (subst (λ k. is_bare k ≡ true) (sym (kind_same compares s.tables (place_in s.places o) (book_in bs o) (m.held o passes.low'))) passes.kind')
+    second_bare bs m = bare_is (book_in bs o) (kind_in o passes.low' bs m is_bare passes.kind')
 
     pub cut_done : (stays goes : Place) (n : ℕ × ℕ × ℕ) → CutsIn compares s.tables T' s.stock S' here place (Ok (stays, goes, n))
         → Performs compares (Cut p o place) s (with_places T' S' (slice_set (slice_set s.places p stays) o goes)) (Ok (counts n))
@@ -151,7 +147,7 @@ module _ {K V : Type 0} {compares : K → K → Ordering} (ordered : Ordered com
     cut_done stays goes n i =
         passed compares (Cut p o place) s _ fit pass (Ok (counts n)) refl (λ n. absurd (false≢true n)) (λ n. absurd (false≢true n)) refl
         (λ bs m.
-        let d = i (book_in bs p) (cut_ready bs m) (cut_kind bs m) in
+        let d = i (book_in bs p) (ready_in p passes.low bs m here h) (kind_in p passes.low bs m is_map passes.kind) in
         met_two ordered s (Cut p o place) pass bs m p o passes.low passes.low' passes.apart long (second_bare bs m) d.fresh 0 (cut_in d.fresh s.stock.allowance place (book_in bs p)) refl T' S' stays goes (counts n) d.acts.0 d.acts.1)
 
     pub cut_not : (f : Fault) (e : Code) → e ≡ fault_code f → CutsIn compares s.tables T' s.stock S' here place (Err f) → Performs compares (Cut p o place) s (with_places T' S' s.places) (Err e)
@@ -159,7 +155,7 @@ module _ {K V : Type 0} {compares : K → K → Ordering} (ordered : Ordered com
     cut_not f e z i =
         passed compares (Cut p o place) s _ fit pass (Err e) refl (λ n. absurd (false≢true n)) (λ n. absurd (false≢true n)) refl
         (λ bs m.
-        let d = i (book_in bs p) (cut_ready bs m) (cut_kind bs m) in
+        let d = i (book_in bs p) (ready_in p passes.low bs m here h) (kind_in p passes.low bs m is_map passes.kind) in
         met_undivided ordered s (Cut p o place) pass bs m _ (same_state T' S' d.acts.1) p o passes.apart (second_bare bs m) d.fresh 0
         (cut_in d.fresh s.stock.allowance place (book_in bs p)) refl e (d.acts.0 ∙ ap (λ y. (Err y, (book_in bs p, bare))) (sym z)))
 

@@ -1,5 +1,6 @@
 -- Laying out, from its checks. Assumes nothing.
-use Rattle.std.proofs.Common.{◌≡◌, ℕ, zero, suc, Bool, true, false, List, [], replicate, get_or, slice_index_or, Ok, Err, refl, sym, subst, arith}
+use Rattle.std.proofs.Common.{◌≡◌, ℕ, Bool, true, false, List, [], replicate, slice_index_or, Ok, Err, refl, sym, subst, arith}
+use Rattle.std.proofs.lemmas.List.{get_or-replicate}
 use Rattle.std.specs.declared.cmp.Ordering.{Ordering}
 use Rattle.supply.specs.Stocks.{Stock, marked}
 use Rattle.supply.proofs.StockLaws.{marked_returned}
@@ -17,11 +18,6 @@ none_marked ms x q = go (slice_index_or ms x false) refl
     go true h = absurd (omega (arith, marked_returned ms x h))
     go false h = refl
 
-same_all : {X : Type 0} (n p : ℕ) (x : X) → get_or (replicate n x) p x ≡ x
-same_all zero p x = refl
-same_all (suc n) zero x = refl
-same_all (suc n) (suc p) x = same_all n p x
-
 module _ {K V : Type 0} (compares : K → K → Ordering) (s : State K V) where
   fresh_models : FitsAlone s → Ready s → Models compares (laid s) (replicate 16 bare)
   fresh_models f u = record {
@@ -29,7 +25,7 @@ module _ {K V : Type 0} (compares : K → K → Ordering) (s : State K V) where
     size_is = refl;
     fits = λ _. u.size;
     sixteen = refl;
-    held = λ p l. subst (λ x. BookAt compares s.tables x (book_in (replicate 16 bare) p)) (sym (same_all 16 p P.Bare)) (subst (λ b. BookAt compares s.tables P.Bare b) (sym (same_all 16 p none)) tt);
+    held = λ p l. subst (λ x. BookAt compares s.tables x (book_in (replicate 16 bare) p)) (sym (get_or-replicate 16 p P.Bare P.Bare l)) (subst (λ b. BookAt compares s.tables P.Bare b) (sym (get_or-replicate 16 p none none l)) tt);
     numbers = λ x. omega (arith, mark_unused s.stock x (none_marked s.stock.marks x u.none));
   }
     where
