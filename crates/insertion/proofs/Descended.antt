@@ -77,6 +77,16 @@ module _ {E : Type 0} (f : E → E) (place : E → Ordering) where
   alter_at (x ∷ es) e fs zero p = absurd (omega arith)
   alter_at (x ∷ es) e fs (suc i) p = ap (λ l. x ∷ l) (alter_at es e fs i (omega arith))
 
+-- ---- a child of a tree that is held and out
+
+pub kid_owned : {K V : Type 0} (T : Tables K V) (S : Stock) (h : ℕ) (t : Tree (K × V)) → Owns T S h t → 0 < h → (i : ℕ) → i < length (kids t) → Owns T S (h - 1) (kid t i)
+kid_owned T S h t owns up i inside = record {
+  sized = owns.sized;
+  fits = owns.fits;
+  holds = All-get_or (Holds T (h - 1)) (kids t) i (node 0 [] none) inside (held_from T h t owns.holds).all;
+  owned = λ x. omega (arith, owns.owned x, occurs_at x h t up, total_at (occurs x (h - 1)) (kids t) i (node 0 [] none) inside);
+}
+
 -- ---- above the leaves, where the key is not in the node
 
 module _ {K V : Type 0} (place : (K × V) → Ordering) (T T₁ : Tables K V) (S S₁ : Stock) (h : ℕ) (e : K × V) (above : ℕ) (t : Tree (K × V))
@@ -100,12 +110,7 @@ module _ {K V : Type 0} (place : (K × V) → Ordering) (T T₁ : Tables K V) (S
   seeks = (seek_down place t h up no').0 ∙ ap (λ j. seek place (h - 1) (kid t j)) (first_is place (row t))
 
   pub child_owned : Owns T S (h - 1) child
-  child_owned = record {
-    sized = owns.sized;
-    fits = owns.fits;
-    holds = All-get_or (Holds T (h - 1)) (kids t) i (node 0 [] none) inside (held_from T h t owns.holds).all;
-    owned = λ x. omega (arith, owns.owned x, occurs_at x h t up, total_at (occurs x (h - 1)) (kids t) i (node 0 [] none) inside);
-  }
+  child_owned = kid_owned T S h t owns up i inside
 
   swapped : Swapped place T T₁ S S₁ (h - 1) (second e) child → Swapped place T T₁ S S₁ h (second e) t
   swapped q =
@@ -437,3 +442,43 @@ module _ {K V : Type 0} (place : (K × V) → Ordering) (T T' : Tables K V) (S :
         declined = λ q l. absurd (none-some k.entry (sym q ∙ n));
         granted = λ q l. absurd (none-some k.entry (sym q ∙ n));
       }
+
+-- ---- a node with room
+
+module _ {K V : Type 0} (place : (K × V) → Ordering) (T T' : Tables K V) (S S' : Stock) (h : ℕ) (e : K × V) (above : ℕ) (t : Tree (K × V)) (r : Result (InsertResult K V) Fault)
+    (d : Descended place T T' S S' h e above t r) (room : length (row t) < 11) where
+  abbrev b_r : K × V → Bool
+  b_r y = is_gt (place y)
+
+  run_room : run b_r h t ≤ h
+  run_room =
+      ⊎_elim
+      (λ (z : h < 1).
+      let q : run b_r h t ≡ run b_r 0 t = ap (λ k. run b_r k t) (let p : h ≡ 0 = omega arith in p) in
+      omega (arith, run_leaf b_r t ∙ cond-true (ltb (length (row t)) 11) 0 1 (lt-ltb (length (row t)) 11 room)))
+      (λ (z : 1 ≤ h).
+      let c : ℕ = run b_r (h - 1) (kid t (index b_r (row t))) in
+      let q : run b_r h t ≡ cond (ltb c h) c h =
+      run_down b_r t h z ∙ ap (λ k. cond (ltb c h) c k) (cond-true (ltb (length (row t)) 11) h (suc h) (lt-ltb (length (row t)) 11 room)) in
+      ⊎_elim
+      (λ (p : c < h). omega (arith, q ∙ cond-true (ltb c h) c h (lt-ltb c h p)))
+      (λ (p : h ≤ c). omega (arith, q ∙ cond-false (ltb c h) c h (le-ltb c h p)))
+      (cases_lt c h))
+      (cases_lt h 1)
+
+  grown_whole : (k : K) (v : V) (m : ℕ) → r ≡ Ok (Split k v m) → (fresh : ℕ → ℕ) (g : Grown (K × V)) → grow fresh b_r e h t ≡ g
+      → Grew T T' S S' (λ x. occurs x h t) h (number t) g (run b_r h t) r → ⊥
+  grown_whole k v m p fresh (whole u) q w = fit_not_split k v m (ok_same _ _ (sym w.told ∙ p))
+  grown_whole k v m p fresh (parted l x y) q w = absurd (omega (arith, run_room, subst (Ran h (run b_r h t)) q (grow_ran fresh b_r e h t)))
+
+  -- it is not split
+  pub room_keeps : (k : K) (v : V) (m : ℕ) → r ≡ Ok (Split k v m) → ⊥
+  room_keeps k v m p = go (seek place h t) refl
+    where
+      go : (o : Option (K × V)) → seek place h t ≡ o → ⊥
+      go (Some x) q = replaced_not_split (second x) k v m (ok_same _ _ (sym (d.replaced x q).0 ∙ p))
+      go None q =
+          ⊎_elim
+          (λ (l : S.allowance < need_at b_r h t above). err_not_ok _ _ (sym (d.declined q l).0 ∙ p))
+          (λ (l : need_at b_r h t above ≤ S.allowance). let u = d.granted q l in grown_whole k v m p u.0 (grow u.0 b_r e h t) refl u.1)
+          (cases_lt S.allowance (need_at b_r h t above))

@@ -4,5 +4,6 @@ pub mod Settled
 pub mod Descending
 pub mod Descended
 pub mod Steps
+pub mod Lowering
 pub mod Crowning
 pub mod Entering

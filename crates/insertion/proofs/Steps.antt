@@ -1,6 +1,6 @@
 -- The search in a node of the tables, and what comes of an insertion under that node. Assumes nothing.
 use Rattle.rules.proofs.Searches.{first_is}
-use Rattle.std.proofs.Common.{◌≡◌, ℕ, ◌-◌, ◌<◌, true, false, length, get_or, Ok, Err, Result, Ordering, sym, ap, ◌∙◌, subst}
+use Rattle.std.proofs.Common.{◌≡◌, ℕ, ◌-◌, ◌<◌, true, false, length, get_or, Ok, Err, Result, Ordering, sym, ap, ◌∙◌, subst, arith}
 use Rattle.std.specs.Ordering.{is_gt}
 use Rattle.order.specs.declared.search.SearchResult.{SearchResult}
 use Rattle.order.specs.declared.search.SearchResult.TheVariants.{Found, GoDown}
@@ -24,7 +24,7 @@ use Rattle.rules.proofs.Branches.{held_from}
 use Rattle.insertion.specs.declared.descent.InsertResult.{InsertResult}
 use Rattle.insertion.specs.declared.descent.InsertResult.TheVariants.{Replaced, Split}
 use Rattle.insertion.specs.Descent.{above_child, Settles, Descends, Descended}
-use Rattle.insertion.proofs.Descended.{found_not, found_down, leaf_down, passed_up, split_up, child_owned}
+use Rattle.insertion.proofs.Descended.{found_not, found_down, leaf_down, passed_up, split_up, child_owned, room_keeps}
 
 -- the search in node n, in tables that are T, came to r
 module _ {K V : Type 0} (place : K → Ordering) {T₀ T : Tables K V} {S : Stock} (n : NodeRef) (e : K × V) (above : ℕ) (t : Tree (K × V)) (owns : Owns T S n.height t) (at-m : number t ≡ n.node)
@@ -77,23 +77,35 @@ module _ {K V : Type 0} (place : K → Ordering) {T₀ T : Tables K V} {S : Stoc
       up : 0 < n.height
       up = (forced_inner n inner kind-is).0
 
+      head-is : head_at T₂ inner.node ≡ head_at T (number t)
+      head-is = ap (λ (U : Tables K V). head_at U inner.node) view ∙ ap (head_at T) ((forced_inner n inner kind-is).1 ∙ sym at-m)
+
+      child-is : number (kid t at) ≡ c.node
+      child-is =
+          ap (λ j. number (kid t j)) (sym (passed_at came).1) ∙ child_number place T n.height n.node t owns.holds at-m i made s came up ∙ ap (λ m. get_or (head_at T m).edges i 0) (sym at-m)
+          ∙ sym (node-is ∙ ap (λ h. get_or h.edges i 0) head-is)
+
+      child_is_owned : Owns T S (n.height - 1) (kid t at)
+      child_is_owned = child_owned pl T T₁ S S₁ n.height e above t owns up (passed_at came).0
+
       below : Descended pl T T₁ S S₁ (n.height - 1) e (above_child (length (row t)) above) (kid t at) x
       unfolding Descends
       below =
-          let k = forced_inner n inner kind-is in
-          let d = passed_at came in
-          let head-is : head_at T₂ inner.node ≡ head_at T (number t) = ap (λ (U : Tables K V). head_at U inner.node) view ∙ ap (head_at T) (k.1 ∙ sym at-m) in
-          let low : c.height ≡ n.height - 1 = height-is ∙ ap (λ h. h - 1) k.2 in
-          let number-is : number (kid t at) ≡ c.node =
-          ap (λ j. number (kid t j)) (sym d.1) ∙ child_number place T n.height n.node t owns.holds at-m i made s came up ∙ ap (λ m. get_or (head_at T m).edges i 0) (sym at-m)
-          ∙ sym (node-is ∙ ap (λ h. get_or h.edges i 0) head-is) in
+          let low : c.height ≡ n.height - 1 = height-is ∙ ap (λ h. h - 1) (forced_inner n inner kind-is).2 in
           let high : higher ≡ above_child (length (row t)) above = higher-is ∙ ap (λ h. above_child h.len above) head-is ∙ ap (λ l. above_child l above) (held_from T n.height t owns.holds).body.len_is in
           subst (λ h. Descended pl T T₁ S S₁ h e (above_child (length (row t)) above) (kid t at) x) low
           (subst (λ a. Descended pl T T₁ S S₁ c.height e a (kid t at) x) high
-          (done (kid t at) (subst (λ h. Owns T S h (kid t at)) (sym low) (child_owned pl T T₁ S S₁ n.height e above t owns up d.0)) number-is))
+          (done (kid t at) (subst (λ h. Owns T S h (kid t at)) (sym low) child_is_owned) child-is))
 
       pub step_up : ((k : K) (v : V) (m : ℕ) → x ≡ Ok (Split k v m) → ⊥) → Descended pl T T₁ S S₁ n.height e above t x
       step_up not = passed_up pl T T₁ S S₁ n.height e above t owns up (passed_at came).0 x below not
+
+      -- the child has room
+      pub step_room : (head_at T c.node).len < 11 → Descended pl T T₁ S S₁ n.height e above t x
+      step_room l =
+          let body = (held_from T (n.height - 1) (kid t at) child_is_owned.holds).body in
+          step_up (room_keeps pl T T₁ S S₁ (n.height - 1) e (above_child (length (row t)) above) (kid t at) x below
+          (omega (arith, l, body.len_is, ap (λ m. (head_at T m).len) child-is)))
 
       pub step_split : (T₃ : Tables K V) (S₃ : Stock) (k : K) (v : V) (m : ℕ) (y : Result (InsertResult K V) Fault) → x ≡ Ok (Split k v m)
           → Settles T₁ T₃ S₁ S₃ n.height n.node i (k, v) m above y → Descended pl T T₃ S S₃ n.height e above t y

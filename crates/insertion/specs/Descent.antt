@@ -10,13 +10,15 @@ use Rattle.std.specs.Ordering.{is_gt}
 use Rattle.supply.specs.declared.faults.Fault.{Fault}
 use Rattle.supply.specs.declared.faults.Fault.TheVariants.{Short}
 use Rattle.supply.specs.Stocks.{Stock, size_of, Given}
+use Rattle.order.specs.declared.search.SearchResult.{SearchResult}
+use Rattle.node.specs.declared.nodes.NodeRef.{NodeRef}
 use Rattle.node.specs.Shape.{Tree, number, mk}
 use Rattle.node.specs.Store.{Tables, Sized, Holds, SameLink, first, second}
 use Rattle.node.specs.Laws.{occurs}
 use Rattle.node.specs.Rules.{settle}
 use Rattle.node.specs.Balance.{mark, Owns, Beside, Unchanged}
 use Rattle.rules.specs.Rules.{grow, run}
-use Rattle.map.specs.Lookup.{seek}
+use Rattle.map.specs.Lookup.{seek, SearchedIn}
 use Rattle.map.specs.Replacing.{amend}
 use Rattle.insertion.specs.declared.descent.InsertResult.{InsertResult}
 use Rattle.insertion.specs.declared.descent.InsertResult.TheVariants.{Replaced}
@@ -64,3 +66,15 @@ pub record Descended {K V : Type 0} (place : (K × V) → Ordering) (T T' : Tabl
 
 unfoldable pub Descends : {K V : Type 0} → (K → Ordering) → Tables K V → Tables K V → Stock → Stock → ℕ → ℕ → (K × V) → ℕ → Result (InsertResult K V) Fault → Type 0
 Descends {K} {V} place T T' S S' h m e above r = (t : Tree (K × V)) → Owns T S h t → number t ≡ m → Descended (λ y. place (first y)) T T' S S' h e above t r
+
+abbrev pub Bare : {K V : Type 0} → Tables K V → NodeRef → Type 0
+Bare {K} {V} T n = (S : Stock) (t : Tree (K × V)) → Owns T S n.height t → number t ≡ n.node → ⊥
+
+-- from node n down to m, where the search came to r; the ancestors of the one would take `above`, and those of the other `higher`
+pub record Lowered {K V : Type 0} (place : K → Ordering) (T : Tables K V) (n : NodeRef) (above : ℕ) (m : NodeRef) (higher : ℕ) (r : SearchResult) : Type 0 where
+  pub low : m.height ≤ n.height
+  pub made : ℕ
+  pub searched : SearchedIn place T m.node r made
+  pub under : (S : Stock) (t : Tree (K × V)) → Owns T S n.height t → number t ≡ n.node → (u : Tree (K × V)) × Owns T S m.height u × (number u ≡ m.node)
+  pub leads : (T' : Tables K V) (S S' : Stock) (e : K × V) (x : Result (InsertResult K V) Fault)
+      → Descends place T T' S S' m.height m.node e higher x → Descends place T T' S S' n.height n.node e above x

@@ -1,6 +1,7 @@
 //! Insertion from a node down to a leaf, and the splits on the way back.
 
-ghost use Rattle.std.specs.Prelude.{◌+◌, ◌≤◌};
+ghost use Rattle.std.specs.Prelude.{◌≡◌, ◌+◌, ◌<◌, ◌≤◌, true};
+ghost use Rattle.node.specs.Store.{head_in};
 
 use map::insert::{insert_fit, insert_full, replace_value};
 use map::search::search_in;
@@ -27,10 +28,20 @@ pub(crate) struct Way {
     ghost low: { above + node.height ≤ 6 },
 }
 
+/// Whether `node` lies in the table and has room for an entry.
+fn has_room(heads: &[Head], node: u16) -> bool
+    ensures { result ≡ true → (head_in heads.now node).len < 11 }
+{
+    match heads.get(node as usize) {
+        Some(head) => (head.len as usize) < CAPACITY,
+        None => false,
+    }
+}
+
 impl Way {
-    ghost use Rattle.std.specs.Prelude.{◌≡◌, ◌+◌};
+    ghost use Rattle.std.specs.Prelude.{◌≡◌, ◌+◌, MatchResult};
     ghost use Rattle.node.specs.Store.{tables};
-    ghost use Rattle.insertion.specs.Descent.{TookFor, Settles, Descends, above_child};
+    ghost use Rattle.insertion.specs.Descent.{TookFor, Settles, Lowered, Bare, Descends, above_child};
 
     /// How many nodes the ancestors of a child take if it is split, where this node has `len` entries.
     fn above_child(self, len: u16) -> u16
@@ -81,6 +92,35 @@ impl Way {
         Ok(InsertResult::Split(k, v, right))
     }
 
+    /// Goes down by the search as long as the next node has room: what is put in there changes no node above. Answers the last such node
+    /// with the result of the search in it.
+    fn lower<K: KeyOrder, V>(
+        self,
+        tables: &Tables<'_, K, V>,
+        key: &K,
+    ) -> Result<(Way, SearchResult), Fault>
+        ensures { MatchResult result (λ p. Lowered (K.KeyOrder.compares key.now) tables.now self.node self.above p.0.node p.0.above p.1) (λ _. Bare tables.now self.node) }
+    {
+        let mut way = self;
+        loop {
+            let (found, _) = search_in(tables, way.node.node, key)?;
+            let SearchResult::GoDown(idx) = found else {
+                return Ok((way, found));
+            };
+            let ForceResult::Internal(inner) = way.node.force() else {
+                return Ok((way, found));
+            };
+            let node = inner.child(tables.heads[inner.node as usize].edges[idx]);
+            if !has_room(tables.heads, node.node) {
+                return Ok((way, found));
+            }
+            way = Way {
+                node,
+                above: way.above_child(tables.heads[inner.node as usize].len),
+            };
+        }
+    }
+
     /// Puts an entry in under the node: at the key that is the same as `key` its value is replaced, else the entry goes into the leaf where it
     /// belongs, and nodes that are full are split on the way back.
     pub(crate) fn insert_under<K: KeyOrder, V: Copy, S: Supply>(
@@ -99,26 +139,24 @@ impl Way {
             keys,
             values,
         };
-        let (found, _) = search_in(&shown, self.node.node, &key)?;
+        let (way, found) = self.lower(&shown, &key)?;
         match found {
             SearchResult::Found(idx) => {
-                let old = replace_value(heads, keys, values, self.node.node, idx, val)?;
+                let old = replace_value(heads, keys, values, way.node.node, idx, val)?;
                 Ok(InsertResult::Replaced(old))
             }
-            SearchResult::GoDown(idx) => match self.node.force() {
-                ForceResult::Leaf(_) => self.settle(heads, keys, values, supply, idx, key, val, 0),
+            SearchResult::GoDown(idx) => match way.node.force() {
+                ForceResult::Leaf(_) => way.settle(heads, keys, values, supply, idx, key, val, 0),
                 ForceResult::Internal(inner) => {
-                    let head = heads[inner.node as usize];
-                    let child = inner.child(head.edges[idx]);
-                    let way = Way {
-                        node: child,
-                        above: self.above_child(head.len),
+                    let next = Way {
+                        node: inner.child(heads[inner.node as usize].edges[idx]),
+                        above: way.above_child(heads[inner.node as usize].len),
                     };
-                    let below = way.insert_under(heads, keys, values, supply, key, val)?;
+                    let below = next.insert_under(heads, keys, values, supply, key, val)?;
                     let InsertResult::Split(k, v, right) = below else {
                         return Ok(below);
                     };
-                    self.settle(heads, keys, values, supply, idx, k, v, right)
+                    way.settle(heads, keys, values, supply, idx, k, v, right)
                 }
             },
         }

@@ -1,6 +1,6 @@
 -- Lookup in one node, and down from it. Assumes nothing.
 use Rattle.rules.proofs.Searches.{first_map, found_map, made_map, first_within, found_within}
-use Rattle.std.proofs.Common.{◌≡◌, ℕ, zero, suc, ◌+◌, ◌-◌, ◌*◌, ◌<◌, Bool, true, false, cond, List, [], ◌∷◌, ◌++◌, map, length, get_or, take, drop, Some, None, Ok, Result, Ordering, sym, refl, ap, ◌∙◌, subst, ap₂, arith}
+use Rattle.std.proofs.Common.{◌≡◌, ℕ, zero, suc, ◌+◌, ◌-◌, ◌*◌, ◌<◌, ◌≤◌, Bool, true, false, cond, List, [], ◌∷◌, ◌++◌, map, length, get_or, take, drop, Some, None, Ordering, sym, refl, ap, ◌∙◌, subst, ap₂, arith}
 use lib.ListN.{length-map}
 use lib.Seq.{split_at}
 use Rattle.std.proofs.lemmas.List.{length-take-le, get_or-map}
@@ -159,5 +159,31 @@ child_under place T n inner x i made t w at v e f node-is height-is =
       b.1 ∙ ap (λ h. made + looks (λ e. place (first e)) h (kid t i)) (sym z),
     )
 
-pub answer_below : {X E : Type 0} (v x y : X) (b c m n : ℕ) → ◌≡◌ {A = X × ℕ} (v, b) (x, m) → y ≡ x → n ≡ c + m → ◌≡◌ {A = Result (X × ℕ) E} (Ok (v, c + b)) (Ok (y, n))
-answer_below v x y b c m n r p q = ap (λ a. Ok (a.0, c + a.1)) r ∙ ap₂ (λ a k. Ok (a, k)) (sym p) (sym q)
+-- ---- on the way down
+
+-- from the root the search came to node n, with so many comparisons: what it finds under n is the answer
+pub record Came {K V : Type 0} (place : K → Ordering) (T : Tables K V) (root n : NodeRef) (made : ℕ) : Type 0 where
+  pub few : made + 11 * (n.height + 1) ≤ 11 * (root.height + 1)
+  pub under : (t : Tree (K × V)) → Holds T root.height t → number t ≡ root.node
+      → (u : Tree (K × V)) × Holds T n.height u × (number u ≡ n.node)
+      × (value_of (seek (λ e. place (first e)) root.height t) ≡ value_of (seek (λ e. place (first e)) n.height u))
+      × (looks (λ e. place (first e)) root.height t ≡ made + looks (λ e. place (first e)) n.height u)
+
+module _ {K V : Type 0} (place : K → Ordering) (T : Tables K V) (root : NodeRef) where
+  pub came_here : Came place T root root 0
+  came_here = record { few = omega arith; under = λ t w e. (t, w, e, refl, omega arith) }
+
+  pub came_down : (n : NodeRef) (inner : Internal) (x : NodeRef) {r : SearchResult} (i made count : ℕ) → Came place T root n made
+      → SearchedIn place T n.node r count → r ≡ GoDown i → kind.Internal inner ≡ forced n
+      → x.node ≡ get_or (head_at T inner.node).edges i 0 → x.height ≡ inner.height - 1
+      → Came place T root x (made + count)
+  came_down n inner x i made count c v e f node-is height-is =
+      let k = forced_inner n inner f in
+      let low : x.height + 1 ≡ n.height = omega (arith, height-is, k.0, k.2) in
+      record {
+        few = omega (arith, c.few, v.most);
+        under = λ t w at.
+            let u = c.under t w at in
+            let d = child_under place T n inner x i count u.0 u.1 u.2 v e f node-is height-is in
+            (kid u.0 i, d.0, d.1, u.3 ∙ d.2, omega (arith, u.4, d.3));
+      }

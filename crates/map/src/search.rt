@@ -25,29 +25,32 @@ pub fn search_in<K: KeyOrder, V, Q: Query<K>>(
     Ok(search_node(&tables.keys[start..start + len], query))
 }
 
-/// Looks in `node`, and in its child at the index where the search stopped.
+/// Looks in `root`, and again and again in the child at the index where the search stopped.
 fn seek_under<K: KeyOrder, V: Copy, Q: Query<K>>(
     tables: &Tables<'_, K, V>,
-    node: NodeRef,
+    root: NodeRef,
     query: &Q,
 ) -> Result<(Option<V>, usize), Fault>
-    ensures bound { IfOk result (λ p. p.1 ≤ 11 * (node.height + 1)) }
-    ensures seeks { Seeks (Q.Placing.places query.now) tables.now node.height node.node result }
+    ensures bound { IfOk result (λ p. p.1 ≤ 11 * (root.height + 1)) }
+    ensures seeks { Seeks (Q.Placing.places query.now) tables.now root.height root.node result }
 {
-    let (found, count) = search_in(tables, node.node, query)?;
-    match found {
-        SearchResult::Found(idx) => {
-            let value = tables.values[CAPACITY * node.node as usize + idx];
-            Ok((Some(value), count))
-        }
-        SearchResult::GoDown(idx) => match node.force() {
-            ForceResult::Leaf(_) => Ok((None, count)),
-            ForceResult::Internal(inner) => {
-                let child = inner.child(tables.heads[inner.node as usize].edges[idx]);
-                let (value, below) = seek_under(tables, child, query)?;
-                Ok((value, count + below))
+    let mut node = root;
+    let mut made = 0;
+    loop {
+        let (found, count) = search_in(tables, node.node, query)?;
+        made += count;
+        match found {
+            SearchResult::Found(idx) => {
+                let value = tables.values[CAPACITY * node.node as usize + idx];
+                return Ok((Some(value), made));
             }
-        },
+            SearchResult::GoDown(idx) => match node.force() {
+                ForceResult::Leaf(_) => return Ok((None, made)),
+                ForceResult::Internal(inner) => {
+                    node = inner.child(tables.heads[inner.node as usize].edges[idx]);
+                }
+            },
+        }
     }
 }
 

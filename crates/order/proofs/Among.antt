@@ -4,7 +4,7 @@
 --     stopped_parted, stopped_strict             what a search that stopped says of a rising row
 --     told                                       all that it says
 use Rattle.std.specs.Prelude.{◌≡◌, ℕ, zero, suc, ◌+◌, ◌<◌, ◌≤◌, min, Bool, true, false, List, [], ◌∷◌, length, ◌≢◌, slice_index_or}
-use Rattle.std.specs.declared.cmp.Ordering.TheVariants.{Less, Greater}
+use Rattle.std.specs.declared.cmp.Ordering.TheVariants.{Less, Equal, Greater}
 use Rattle.std.specs.declared.cmp.Ordering.{Ordering}
 use Rattle.std.proofs.Common.{arith}
 use Rattle.std.specs.Ordering.{is_le, is_eq}
@@ -127,6 +127,11 @@ pub record Told {K Q : Type 0} (cmp : K → K → Ordering) (places : Q → K �
   pub stopped : Stopped places keys q i f
   pub parted : Rising cmp keys → Parted places keys q i f
   pub strict : Pointed cmp places → Rising cmp keys → Strict places keys q i
+
+pub at_most : (o : Ordering) → true ≡ is_le o → o ≢ Greater
+at_most Less e = λ n. cc
+at_most Equal e = λ n. cc
+at_most Greater e = λ n. cc
 
 pub told : {K Q : Type 0} {cmp : K → K → Ordering} {places : Q → K → Ordering} → Placed cmp places → (keys : List K) (q : Q) (i : ℕ) (f : Bool) → Stopped places keys q i f → Told cmp places keys q i f
 told {places} p keys q i f r =

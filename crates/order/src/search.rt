@@ -27,10 +27,9 @@ pub fn search_linear<K: KeyOrder, Q: Query<K>>(keys: &[K], query: &Q) -> (usize,
     ensures strict { Pointed K.KeyOrder.compares Q.Placing.places → Rising K.KeyOrder.compares keys.now → Strict Q.Placing.places keys.now query.now result.0 }
 {
     for (i, k) in keys.iter().enumerate() {
-        match query.place(k) {
-            Ordering::Greater => {}
-            Ordering::Equal => return (i, true),
-            Ordering::Less => return (i, false),
+        let placed = query.place(k);
+        if placed.is_le() {
+            return (i, placed.is_eq());
         }
     }
     (keys.len(), false)
