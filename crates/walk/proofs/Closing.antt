@@ -1,5 +1,5 @@
 -- Steps until none is left, and the nodes that remain. Assumes nothing.
-use Rattle.std.proofs.Common.{◌≡◌, ℕ, zero, suc, ◌+◌, ◌*◌, ◌<◌, ◌≤◌, Bool, true, false, List, [], ◌∷◌, ◌++◌, map, length, is_err, Some, None, Ok, Err, All, Option, Result, sym, refl, ap, ◌∙◌, subst, ⊎_elim, arith, length-append}
+use Rattle.std.proofs.Common.{◌≡◌, ℕ, zero, suc, ◌+◌, ◌*◌, ◌<◌, ◌≤◌, Bool, true, false, List, [], ◌∷◌, ◌++◌, map, length, is_err, Some, None, Ok, Err, All, Result, sym, refl, ap, ◌∙◌, subst, ⊎_elim, arith, length-append}
 use lib.ListN.{length-map}
 use Rattle.std.proofs.lemmas.List.{nil_from_length, get_or_past}
 use Rattle.std.proofs.lemmas.Result.{IfOk-from_err}
@@ -9,7 +9,6 @@ use Rattle.supply.specs.declared.faults.Fault.TheVariants.{Breach}
 use Rattle.supply.specs.Stocks.{Stock, size_of}
 use Rattle.node.specs.declared.head.Head.{Head}
 use Rattle.node.specs.declared.ends.Side.TheVariants.{First}
-use Rattle.node.specs.declared.nodes.NodeRef.{NodeRef}
 use Rattle.node.specs.Balance.{mark, Balanced}
 use Rattle.node.specs.Laws.{occurs, nodes}
 use Rattle.node.specs.Shape.{Tree, number, row, kids, flat, weigh, total, root_least}
@@ -21,9 +20,9 @@ use Rattle.walk.specs.declared.walks.Walk.{Walk}
 use Rattle.walk.specs.Climbs.{Breached, ups, Tops}
 use Rattle.walk.specs.Leaving.{Clears}
 use Rattle.walk.specs.Steps.{step}
-use Rattle.walk.specs.Walks.{no_walk, Walks, Opens, Emptied, Closes, Releases}
+use Rattle.walk.specs.Walks.{Walks, Emptied, Closes}
 use Rattle.walk.specs.Window.{Bounds, bounds, Shown}
-use Rattle.walk.proofs.Handing.{ok_is, err_ok}
+use Rattle.walk.proofs.Handing.{err_ok}
 use Rattle.walk.proofs.Stepping.{step_ends}
 use Rattle.walk.proofs.Walking.{exhausted}
 use Rattle.walk.proofs.Windows.{among_all, shown_pane, shown_inner, shown_kids, shown_fanned}
@@ -130,23 +129,4 @@ module _ {K V : Type 0} (T : Tables K V) where
     all = tt;
     few = tt;
     held = λ h t v. let l = walks_few S h t w v in absurd (both_ways a q (k l.0 l.1));
-  }
-
-  -- ---- release
-
-  pub releases_lost : (S S' : Stock) (o : Option NodeRef) (count : ℕ) (y : Fault) (r : Result ℕ Fault) → Breached r → Opens T o count (Err y) → Releases T S S' o count r
-  releases_lost S S' o count y r g e = record {
-    fault = g;
-    none = λ z. absurd (err_ok y no_walk (e.none z));
-    some = λ n z t w. let a = e.some n z S t w in absurd (err_ok y a.walk a.answer);
-  }
-
-  pub releases_done : (S S' : Stock) (o : Option NodeRef) (count : ℕ) (w : Walk) (r : Result ℕ Fault) → Opens T o count (Ok w) → Closes T S S' w r → Releases T S S' o count r
-  releases_done S S' o count w r e c = record {
-    fault = c.fault;
-    none = λ z. c.none (ok_is w no_walk (e.none z));
-    some = λ n z t v.
-        let a = e.some n z S t v in
-        let b = c.held n.height t (subst (λ u. Walks T S n.height t u) (sym (ok_is w a.walk a.answer)) a.walks) in
-        (b.0 ∙ ap (λ k. Ok k) (sym v.count_is), b.1);
   }

@@ -7,5 +7,6 @@ pub mod Walking
 pub mod Handing
 pub mod Opening
 pub mod Closing
+pub mod Releasing
 pub mod Framing
 pub mod Cases

@@ -103,7 +103,7 @@ module _ {K V : Type 0} (T : Tables K V) where
   walk_of f g n = record { front = f; back = g; left = n }
 
   module _ (S : Stock) (n : NodeRef) (count : ℕ) (t : Tree (K × V)) (w : Ready T S n count t) where
-    ready_low : n.height ≤ 5
+    pub ready_low : n.height ≤ 5
     ready_low = held_low T n.height t w.owns.sized w.owns.holds w.formed (λ x. omega (arith, w.owns.owned x, mark_most S x))
 
     pub ready_chain : (s : Side) → (n.height ≤ 5) × Chain s T.heads n.height n.node

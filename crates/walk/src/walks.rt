@@ -2,11 +2,13 @@
 
 ghost use Rattle.std.specs.Prelude.{◌≡◌, ◌*◌, ◌<◌, ◌≤◌, true};
 ghost use Rattle.walk.specs.Climbs.{Breached};
+ghost use Rattle.walk.specs.Leaving.{GivesBack};
 ghost use Rattle.walk.specs.Walks.{end_of, moved, Opens, Stepped, StandsAt, Emptied, Closes, Releases};
 
 use crate::climb::{Spot, clear, find, leave, next_edge};
+use node::count::{MAX_HEIGHT, len_at};
 use node::ends::{Handle, Side, leaf_edge};
-use node::head::{CAPACITY, NULL};
+use node::head::{CAPACITY, Head, NULL};
 use node::nodes::NodeRef;
 use node::tables::{MOST, Tables};
 use supply::{Fault, Supply};
@@ -171,8 +173,32 @@ impl Walk {
     }
 }
 
+/// Gives back `node`, and then all nodes under it; one that is reached again is refused.
+fn give_back_under<S: Supply>(
+    heads: &[Head],
+    supply: &mut S,
+    height: u16,
+    node: u16,
+) -> Result<(), Fault>
+    requires { height ≤ 5 }
+    ensures { GivesBack (S.stock supply.old) (S.stock supply.new) heads.now height node result }
+{
+    let Ok(len) = len_at(heads, node) else {
+        return Err(Fault::Breach);
+    };
+    supply.give_back(node)?;
+    if height == 0 {
+        return Ok(());
+    }
+    let head = heads[node as usize];
+    for child in &head.edges[0..len + 1] {
+        give_back_under(heads, supply, height - 1, *child)?;
+    }
+    Ok(())
+}
+
 /// Drops the entries of the tree under `root`, which are `count`, and gives back its nodes. Answers how many entries were dropped.
-pub fn release<K: Copy, V: Copy, S: Supply>(
+pub fn release<K, V, S: Supply>(
     tables: &Tables<'_, K, V>,
     supply: &mut S,
     root: Option<NodeRef>,
@@ -180,5 +206,12 @@ pub fn release<K: Copy, V: Copy, S: Supply>(
 ) -> Result<usize, Fault>
     ensures { Releases tables.now (S.stock supply.old) (S.stock supply.new) root count result }
 {
-    Walk::open(tables, root, count)?.close(tables, supply)
+    let Some(root) = root else {
+        return Ok(0);
+    };
+    if root.height > MAX_HEIGHT {
+        return Err(Fault::Breach);
+    }
+    give_back_under(tables.heads, supply, root.height, root.node)?;
+    Ok(count)
 }
