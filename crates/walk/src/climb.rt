@@ -20,6 +20,7 @@ pub struct Spot {
 }
 
 /// How many entries the node of an edge has, where it stands in the table.
+#[inline]
 fn edged(heads: &[Head], at: Handle) -> Result<u16, Fault>
     ensures { MatchResult result (λ n. Edged heads.now at × (n ≡ (head_in heads.now at.node).len)) (λ f. (f ≡ Fault.Breach) × (Edged heads.now at → ⊥)) }
 {
@@ -30,6 +31,7 @@ fn edged(heads: &[Head], at: Handle) -> Result<u16, Fault>
 }
 
 /// The index of the entry beside an edge, on the way from this side.
+#[inline]
 fn entry_beside(side: Side, len: u16, idx: u16) -> Option<u16>
     ensures { result ≡ beside side len idx }
 {
@@ -40,7 +42,7 @@ fn entry_beside(side: Side, len: u16, idx: u16) -> Option<u16>
 }
 
 /// The first node with an entry beside the edge, from `at` on upwards.
-pub(crate) fn find(heads: &[Head], side: Side, at: Handle, level: u16) -> Result<Spot, Fault>
+fn find_up(heads: &[Head], side: Side, at: Handle, level: u16) -> Result<Spot, Fault>
     requires { level ≤ 5 }
     ensures lies { IfOk result (λ w. (w.node < length heads.now) × (w.idx < 11) × (w.level ≤ 5)) }
     ensures fault { Breached result }
@@ -61,10 +63,29 @@ pub(crate) fn find(heads: &[Head], side: Side, at: Handle, level: u16) -> Result
         node: heads[at.node as usize].parent,
         idx: heads[at.node as usize].place,
     };
-    find(heads, side, above, level + 1)
+    find_up(heads, side, above, level + 1)
+}
+
+/// The same from a leaf on: most often the entry is in the leaf itself.
+#[inline(always)]
+pub(crate) fn find(heads: &[Head], side: Side, at: Handle) -> Result<Spot, Fault>
+    ensures lies { IfOk result (λ w. (w.node < length heads.now) × (w.idx < 11) × (w.level ≤ 5)) }
+    ensures fault { Breached result }
+    ensures whole { Finds side heads.now 0 at result }
+{
+    let len = edged(heads, at)?;
+    if let Some(idx) = entry_beside(side, len, at.idx) {
+        return Ok(Spot {
+            node: at.node,
+            idx,
+            level: 0,
+        });
+    }
+    find_up(heads, side, at, 0)
 }
 
 /// The edge of a leaf that comes after the entry, on the way from this side.
+#[inline(always)]
 pub(crate) fn next_edge(heads: &[Head], side: Side, spot: Spot) -> Result<Handle, Fault>
     requires inside { spot.node < length heads.now }
     requires low { spot.idx < 11 }
@@ -88,7 +109,7 @@ pub(crate) fn next_edge(heads: &[Head], side: Side, spot: Spot) -> Result<Handle
 }
 
 /// Gives back `count` nodes: `node`, its parent and so on.
-pub(crate) fn leave<S: Supply>(
+fn leave_up<S: Supply>(
     heads: &[Head],
     supply: &mut S,
     node: u16,
@@ -103,7 +124,23 @@ pub(crate) fn leave<S: Supply>(
         return Err(Fault::Breach);
     }
     supply.give_back(node)?;
-    leave(heads, supply, heads[node as usize].parent, count - 1)
+    leave_up(heads, supply, heads[node as usize].parent, count - 1)
+}
+
+/// The same, where most often there is none.
+#[inline(always)]
+pub(crate) fn leave<S: Supply>(
+    heads: &[Head],
+    supply: &mut S,
+    node: u16,
+    count: u16,
+) -> Result<(), Fault>
+    ensures { Leaves (S.stock supply.old) (S.stock supply.new) heads.now count node result }
+{
+    if count == 0 {
+        return Ok(());
+    }
+    leave_up(heads, supply, node, count)
 }
 
 /// How many levels `node` stands below the node without a parent.

@@ -25,6 +25,7 @@ pub struct Walk {
 const NO_EDGE: Handle = Handle { node: NULL, idx: 0 };
 
 /// The entry at a place of the tables.
+#[inline(always)]
 fn entry_at<K: Copy, V: Copy>(tables: &Tables<'_, K, V>, spot: Spot) -> Result<(K, V), Fault>
     requires { spot.idx < 11 }
     ensures fault { Breached result }
@@ -47,6 +48,7 @@ fn fit(left: usize, nodes: usize) -> bool
 
 impl Walk {
     /// The edge at one end.
+    #[inline(always)]
     fn end(self, side: Side) -> Handle
         ensures { result ≡ end_of side self }
     {
@@ -57,6 +59,7 @@ impl Walk {
     }
 
     /// The walk with another edge at one end, and one entry less.
+    #[inline(always)]
     fn with_end(self, side: Side, edge: Handle) -> Walk
         requires { 0 < self.left }
         ensures { result ≡ moved side edge self }
@@ -77,6 +80,7 @@ impl Walk {
     }
 
     /// Hands out the entry at one end, and gives back the nodes that it leaves behind.
+    #[inline(always)]
     pub fn step<K: Copy, V: Copy, S: Supply>(
         &mut self,
         tables: &Tables<'_, K, V>,
@@ -89,7 +93,7 @@ impl Walk {
             return Ok(None);
         }
         let at = self.end(side);
-        let spot = find(tables.heads, side, at, 0)?;
+        let spot = find(tables.heads, side, at)?;
         let entry = entry_at(tables, spot)?;
         let edge = next_edge(tables.heads, side, spot)?;
         leave(tables.heads, supply, at.node, spot.level)?;
