@@ -125,8 +125,11 @@ module _ {K V : Type 0} (s : Side) (T : Tables K V) (S : Stock) (h : ℕ) (t : T
 
 -- the heads are those of the same tables under another name
 module _ {K V : Type 0} (s : Side) {T U : Tables K V} (y : U ≡ T) (S S' : Stock) (w : Walk) (e : Handle) (z : e ≡ end_of s w) where
-  at_end : (r : Result Spot Fault) → Finds s U.heads 0 e r → Finds s T.heads 0 (end_of s w) r
+  pub at_end : (r : Result Spot Fault) → Finds s U.heads 0 e r → Finds s T.heads 0 (end_of s w) r
   at_end r f = subst (λ (T : Tables K V). Finds s T.heads 0 (end_of s w) r) y (subst (λ e. Finds s U.heads 0 e r) z f)
+
+  pub at_view : (r : Result Spot Fault) → Finds s T.heads 0 (end_of s w) r → Finds s U.heads 0 e r
+  at_view r f = subst (λ (T : Tables K V). Finds s T.heads 0 e r) (sym y) (subst (λ e. Finds s T.heads 0 e r) (sym z) f)
 
   from_end : (n : ℕ) (r : Result (Unit {0}) Fault) → Leaves S S' U.heads n e.node r → Leaves S S' T.heads n (end_of s w).node r
   from_end n r f = subst (λ (T : Tables K V). Leaves S S' T.heads n (end_of s w).node r) y (subst (λ e. Leaves S S' U.heads n e.node r) z f)

@@ -1,6 +1,6 @@
 //! The way from the edge of a leaf up to the next entry, and down again.
 
-ghost use Rattle.std.specs.Prelude.{◌≡◌, ℕ, ◌+◌, ◌<◌, ◌≤◌, length, IfOk, Ok, MatchResult};
+ghost use Rattle.std.specs.Prelude.{◌≡◌, ℕ, ◌+◌, ◌<◌, ◌≤◌, length, IfOk, IfSome, Ok, MatchResult};
 ghost use Rattle.node.specs.Store.{head_in};
 ghost use Rattle.walk.specs.Leaving.{Leaves, Clears};
 ghost use Rattle.walk.specs.Climbs.{Breached, beside, Edged, Finds, Leads, Tops};
@@ -20,7 +20,6 @@ pub struct Spot {
 }
 
 /// How many entries the node of an edge has, where it stands in the table.
-#[inline]
 fn edged(heads: &[Head], at: Handle) -> Result<u16, Fault>
     ensures { MatchResult result (λ n. Edged heads.now at × (n ≡ (head_in heads.now at.node).len)) (λ f. (f ≡ Fault.Breach) × (Edged heads.now at → ⊥)) }
 {
@@ -31,7 +30,6 @@ fn edged(heads: &[Head], at: Handle) -> Result<u16, Fault>
 }
 
 /// The index of the entry beside an edge, on the way from this side.
-#[inline]
 fn entry_beside(side: Side, len: u16, idx: u16) -> Option<u16>
     ensures { result ≡ beside side len idx }
 {
@@ -42,7 +40,8 @@ fn entry_beside(side: Side, len: u16, idx: u16) -> Option<u16>
 }
 
 /// The first node with an entry beside the edge, from `at` on upwards.
-fn find_up(heads: &[Head], side: Side, at: Handle, level: u16) -> Result<Spot, Fault>
+#[inline]
+pub(crate) fn find(heads: &[Head], side: Side, at: Handle, level: u16) -> Result<Spot, Fault>
     requires { level ≤ 5 }
     ensures lies { IfOk result (λ w. (w.node < length heads.now) × (w.idx < 11) × (w.level ≤ 5)) }
     ensures fault { Breached result }
@@ -63,25 +62,24 @@ fn find_up(heads: &[Head], side: Side, at: Handle, level: u16) -> Result<Spot, F
         node: heads[at.node as usize].parent,
         idx: heads[at.node as usize].place,
     };
-    find_up(heads, side, above, level + 1)
+    find(heads, side, above, level + 1)
 }
 
-/// The same from a leaf on: most often the entry is in the leaf itself.
+/// The entry beside an edge, where it stands in the leaf itself, as most do.
 #[inline(always)]
-pub(crate) fn find(heads: &[Head], side: Side, at: Handle) -> Result<Spot, Fault>
-    ensures lies { IfOk result (λ w. (w.node < length heads.now) × (w.idx < 11) × (w.level ≤ 5)) }
-    ensures fault { Breached result }
-    ensures whole { Finds side heads.now 0 at result }
+pub(crate) fn find_in_leaf(heads: &[Head], side: Side, at: Handle) -> Option<Spot>
+    ensures lies { IfSome result (λ w. (w.node < length heads.now) × (w.idx < 11) × (w.level ≤ 5)) }
+    ensures first { IfSome result (λ w. Finds side heads.now 0 at (Ok w)) }
 {
-    let len = edged(heads, at)?;
-    if let Some(idx) = entry_beside(side, len, at.idx) {
-        return Ok(Spot {
-            node: at.node,
-            idx,
-            level: 0,
-        });
-    }
-    find_up(heads, side, at, 0)
+    let Ok(len) = edged(heads, at) else {
+        return None;
+    };
+    let idx = entry_beside(side, len, at.idx)?;
+    Some(Spot {
+        node: at.node,
+        idx,
+        level: 0,
+    })
 }
 
 /// The edge of a leaf that comes after the entry, on the way from this side.
@@ -109,7 +107,8 @@ pub(crate) fn next_edge(heads: &[Head], side: Side, spot: Spot) -> Result<Handle
 }
 
 /// Gives back `count` nodes: `node`, its parent and so on.
-fn leave_up<S: Supply>(
+#[inline]
+pub(crate) fn leave<S: Supply>(
     heads: &[Head],
     supply: &mut S,
     node: u16,
@@ -124,23 +123,7 @@ fn leave_up<S: Supply>(
         return Err(Fault::Breach);
     }
     supply.give_back(node)?;
-    leave_up(heads, supply, heads[node as usize].parent, count - 1)
-}
-
-/// The same, where most often there is none.
-#[inline(always)]
-pub(crate) fn leave<S: Supply>(
-    heads: &[Head],
-    supply: &mut S,
-    node: u16,
-    count: u16,
-) -> Result<(), Fault>
-    ensures { Leaves (S.stock supply.old) (S.stock supply.new) heads.now count node result }
-{
-    if count == 0 {
-        return Ok(());
-    }
-    leave_up(heads, supply, node, count)
+    leave(heads, supply, heads[node as usize].parent, count - 1)
 }
 
 /// How many levels `node` stands below the node without a parent.

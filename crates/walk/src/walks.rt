@@ -1,11 +1,11 @@
 //! Walks over the entries of a tree, from both ends.
 
-ghost use Rattle.std.specs.Prelude.{◌≡◌, ◌*◌, ◌<◌, ◌≤◌, true};
-ghost use Rattle.walk.specs.Climbs.{Breached};
+ghost use Rattle.std.specs.Prelude.{◌≡◌, ◌*◌, ◌<◌, ◌≤◌, true, length, Ok};
+ghost use Rattle.walk.specs.Climbs.{Breached, Finds};
 ghost use Rattle.walk.specs.Leaving.{GivesBack};
 ghost use Rattle.walk.specs.Walks.{end_of, moved, Opens, Stepped, StandsAt, Emptied, Closes, Releases};
 
-use crate::climb::{Spot, clear, find, leave, next_edge};
+use crate::climb::{Spot, clear, find, find_in_leaf, leave, next_edge};
 use node::count::{MAX_HEIGHT, len_at};
 use node::ends::{Handle, Side, leaf_edge};
 use node::head::{CAPACITY, Head, NULL};
@@ -79,6 +79,27 @@ impl Walk {
         }
     }
 
+    /// Hands out the entry at `spot`, the first one beside the edge at this end, and gives back the nodes between the two.
+    #[inline(always)]
+    fn hand_out<K: Copy, V: Copy, S: Supply>(
+        &mut self,
+        tables: &Tables<'_, K, V>,
+        supply: &mut S,
+        side: Side,
+        spot: Spot,
+    ) -> Result<Option<(K, V)>, Fault>
+        requires left { 0 < self.old.left }
+        requires inside { spot.node < length tables.now.heads }
+        requires low { spot.idx < 11 }
+        ensures { Finds side tables.now.heads 0 (end_of side self.old) (Ok spot) → Stepped side tables.now (S.stock supply.old) (S.stock supply.new) self.old self.new result }
+    {
+        let entry = entry_at(tables, spot)?;
+        let edge = next_edge(tables.heads, side, spot)?;
+        leave(tables.heads, supply, self.end(side).node, spot.level)?;
+        *self = self.with_end(side, edge);
+        Ok(Some(entry))
+    }
+
     /// Hands out the entry at one end, and gives back the nodes that it leaves behind.
     #[inline(always)]
     pub fn step<K: Copy, V: Copy, S: Supply>(
@@ -93,12 +114,11 @@ impl Walk {
             return Ok(None);
         }
         let at = self.end(side);
-        let spot = find(tables.heads, side, at)?;
-        let entry = entry_at(tables, spot)?;
-        let edge = next_edge(tables.heads, side, spot)?;
-        leave(tables.heads, supply, at.node, spot.level)?;
-        *self = self.with_end(side, edge);
-        Ok(Some(entry))
+        if let Some(spot) = find_in_leaf(tables.heads, side, at) {
+            return self.hand_out(tables, supply, side, spot);
+        }
+        let spot = find(tables.heads, side, at, 0)?;
+        self.hand_out(tables, supply, side, spot)
     }
 
     /// Hands out the least entry left, or none where none is left. A node that is left behind goes back to the supply.

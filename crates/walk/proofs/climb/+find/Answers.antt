@@ -1,6 +1,6 @@
 use Rattle.walk.specs.Climbs.{spot}
 use Rattle.walk.proofs.Climbing.{rises_edged, find_here, find_more, find_top}
-use Rattle.walk.proofs.climb.+find_up.Goals as goal
+use Rattle.walk.proofs.climb.+find.Goals as goal
 
 pub returns-in_err-len-clause-whole : goal.returns-in_err-len-clause-whole
 returns-in_err-len-clause-whole t c = λ n m i l w. absurd (c.in_err-len.ensures.1 (rises_edged c.args.side c.args.heads.now n c.args.at (spot m i _) w))
@@ -13,4 +13,4 @@ returns-then-level-eq-MAX_HEIGHT-clause-whole t c =
     find_top c.args.side c.args.heads.now c.args.level c.args.at c.in_ok-len.len _ c.if-level-eq-MAX_HEIGHT.true c.in_ok-len.ensures.1 c.in_default.ensures
 
 pub returns-clause-whole : goal.returns-clause-whole
-returns-clause-whole t c = find_more c.args.side c.args.heads.now c.args.level c.args.at c.in_ok-len.len c.find_up.result c.in_ok-len.ensures.1 c.in_default.ensures c.find_up.ensures.whole
+returns-clause-whole t c = find_more c.args.side c.args.heads.now c.args.level c.args.at c.in_ok-len.len c.find.result c.in_ok-len.ensures.1 c.in_default.ensures c.find.ensures.whole

@@ -1,7 +1,7 @@
 use Rattle.std.proofs.Common.{arith}
 use Rattle.walk.proofs.Climbing.{breached_by}
 use Rattle.walk.proofs.Leaving.{leaves_none, leaves_outside, leaves_declined, leaves_more}
-use Rattle.walk.proofs.climb.+leave_up.Goals as goal
+use Rattle.walk.proofs.climb.+leave.Goals as goal
 
 pub returns-then-count-eq0 : goal.returns-then-count-eq0
 returns-then-count-eq0 g t c = leaves_none c.args.heads.now (g.S.Supply.stock c.args.supply.now) c.args.count c.args.node c.if-count-eq0.true
@@ -16,4 +16,4 @@ returns-in_err-give_back g t c =
 
 pub returns : goal.returns
 returns g t c =
-    leaves_more c.args.heads.now _ _ _ c.args.count c.args.node c.leave_up.result (omega arith) c.in_ok-give_back.ensures.given c.leave_up.ensures
+    leaves_more c.args.heads.now _ _ _ c.args.count c.args.node c.leave.result (omega arith) c.in_ok-give_back.ensures.given c.leave.ensures
