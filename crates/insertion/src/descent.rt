@@ -6,7 +6,7 @@ ghost use Rattle.node.specs.Store.{head_in};
 use map::insert::{insert_fit, insert_full, replace_value};
 use map::search::search_in;
 use node::head::{CAPACITY, Head};
-use node::nodes::{ForceResult, NodeRef};
+use node::nodes::{ForceResult, Internal, NodeRef};
 use node::tables::Tables;
 use order::keys::KeyOrder;
 use order::search::SearchResult;
@@ -39,7 +39,11 @@ fn has_room(heads: &[Head], node: u16) -> bool
 }
 
 impl Way {
-    ghost use Rattle.std.specs.Prelude.{◌≡◌, ◌+◌, MatchResult};
+    ghost use Rattle.std.specs.Prelude.{◌≡◌, ℕ, ◌+◌, MatchResult};
+    ghost use Rattle.order.specs.declared.search.SearchResult.TheVariants.{GoDown};
+    ghost use Rattle.node.specs.declared.nodes.ForceResult.TheVariants as ForceResult;
+    ghost use Rattle.node.specs.Kinds.{forced};
+    ghost use Rattle.map.specs.Lookup.{SearchedIn};
     ghost use Rattle.node.specs.Store.{tables};
     ghost use Rattle.insertion.specs.Descent.{TookFor, Settles, Lowered, Bare, Descends, above_child};
 
@@ -62,8 +66,29 @@ impl Way {
         supply.take()
     }
 
+    /// Splits the node, which is full, and puts an entry at `idx` into the half where it belongs.
+    fn settle_full<K: Copy, V: Copy, S: Supply>(
+        self,
+        heads: &mut [Head],
+        keys: &mut [K],
+        values: &mut [V],
+        supply: &mut S,
+        idx: usize,
+        key: K,
+        val: V,
+        edge: u16,
+    ) -> Result<InsertResult<K, V>, Fault>
+        requires { 11 ≤ (head_in heads.old self.node.node).len }
+        ensures { Settles (tables heads.old keys.old values.old) (tables heads.new keys.new values.new) (S.stock supply.old) (S.stock supply.new) self.node.height self.node.node idx (key, val) edge self.above result }
+    {
+        let right = self.take(supply)?;
+        let (k, v) = insert_full(heads, keys, values, self.node, idx, key, val, edge, right)?;
+        Ok(InsertResult::Split(k, v, right))
+    }
+
     /// Puts an entry at `idx` into the node, which is split where it is full. Above the leaves `edge` goes behind the entry.
     /// With fewer numbers left than this node and its ancestors take nothing is done.
+    #[inline(always)]
     fn settle<K: Copy, V: Copy, S: Supply>(
         self,
         heads: &mut [Head],
@@ -87,9 +112,7 @@ impl Way {
             insert_fit(heads, keys, values, self.node, idx, key, val, edge)?;
             return Ok(InsertResult::Fit);
         }
-        let right = self.take(supply)?;
-        let (k, v) = insert_full(heads, keys, values, self.node, idx, key, val, edge, right)?;
-        Ok(InsertResult::Split(k, v, right))
+        self.settle_full(heads, keys, values, supply, idx, key, val, edge)
     }
 
     /// Goes down by the search as long as the next node has room: what is put in there changes no node above. Answers the last such node
@@ -121,8 +144,38 @@ impl Way {
         }
     }
 
+    /// Puts an entry in under the child at `idx`, where the search stopped, and then into the node what rises out of a split of that child.
+    #[cycle(insert)]
+    fn insert_below<K: KeyOrder, V: Copy, S: Supply>(
+        self,
+        heads: &mut [Head],
+        keys: &mut [K],
+        values: &mut [V],
+        supply: &mut S,
+        inner: Internal,
+        idx: usize,
+        key: K,
+        val: V,
+    ) -> Result<InsertResult<K, V>, Fault>
+        requires kind { ForceResult.Internal inner ≡ forced self.node }
+        requires searched { (made : ℕ) × SearchedIn (K.KeyOrder.compares key) (tables heads.old keys.old values.old) self.node.node (GoDown idx) made }
+        ensures { Descends (K.KeyOrder.compares key) (tables heads.old keys.old values.old) (tables heads.new keys.new values.new) (S.stock supply.old) (S.stock supply.new) self.node.height self.node.node (key, val) self.above result }
+    {
+        let next = Way {
+            node: inner.child(heads[inner.node as usize].edges[idx]),
+            above: self.above_child(heads[inner.node as usize].len),
+        };
+        let below = next.insert_under(heads, keys, values, supply, key, val)?;
+        let InsertResult::Split(k, v, right) = below else {
+            return Ok(below);
+        };
+        self.settle(heads, keys, values, supply, idx, k, v, right)
+    }
+
     /// Puts an entry in under the node: at the key that is the same as `key` its value is replaced, else the entry goes into the leaf where it
     /// belongs, and nodes that are full are split on the way back.
+    #[cycle(insert)]
+    #[inline(always)]
     pub(crate) fn insert_under<K: KeyOrder, V: Copy, S: Supply>(
         self,
         heads: &mut [Head],
@@ -148,15 +201,7 @@ impl Way {
             SearchResult::GoDown(idx) => match way.node.force() {
                 ForceResult::Leaf(_) => way.settle(heads, keys, values, supply, idx, key, val, 0),
                 ForceResult::Internal(inner) => {
-                    let next = Way {
-                        node: inner.child(heads[inner.node as usize].edges[idx]),
-                        above: way.above_child(heads[inner.node as usize].len),
-                    };
-                    let below = next.insert_under(heads, keys, values, supply, key, val)?;
-                    let InsertResult::Split(k, v, right) = below else {
-                        return Ok(below);
-                    };
-                    way.settle(heads, keys, values, supply, idx, k, v, right)
+                    way.insert_below(heads, keys, values, supply, inner, idx, key, val)
                 }
             },
         }
