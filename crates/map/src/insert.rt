@@ -10,6 +10,7 @@ use node::tables::Tables;
 use supply::Fault;
 
 /// Puts an entry at `idx` into a node that has room, and above the leaves an edge behind it.
+#[inline(always)]
 pub fn insert_fit<K: Copy, V: Copy>(
     heads: &mut [Head],
     keys: &mut [K],

@@ -61,6 +61,13 @@ module _ (H : List Head) where
   pub reached_kid : (h m i : ℕ) → 0 < h → Reached H h m → i < length (fan H m) → Reached H (h - 1) (get_or (fan H m) i 0)
   reached_kid h m i l w b = All-get_or (Reached H (h - 1)) (fan H m) i 0 b (reached_fan (h - 1) m (subst (λ k. Reached H k m) (height_suc h l) w))
 
+  -- the same, where n is the number of entries as it was read
+  pub reached_child : (h m i n : ℕ) → n ≡ (head_in H m).len → 0 < h → Reached H h m → i < length (take (n + 1 - 0) (head_in H m).edges) → Reached H (h - 1) (get_or (take (n + 1 - 0) (head_in H m).edges) i 0)
+  reached_child h m i n q up w l =
+      let z : n + 1 - 0 ≡ (head_in H m).len + 1 = omega arith in
+      let e = ap (λ k. take k (head_in H m).edges) z in
+      subst (λ cs. Reached H (h - 1) (get_or cs i 0)) (sym e) (reached_kid h m i up w (subst (λ (cs : List ℕ). i < length cs) e l))
+
   counted_most : (h m : ℕ) → Reached H h m → count H h m ≤ most h
   unfolding Reached count
   counted_most zero m w = omega (arith, w.few)

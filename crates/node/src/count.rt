@@ -37,7 +37,12 @@ fn dfs(heads: &[Head], height: u16, node: u16) -> Result<usize, Fault>
     let head = heads[node as usize];
     let mut sum = len;
     for child in &head.edges[0..len + 1] {
-        sum += dfs(heads, height - 1, *child)?;
+        let count = if height == 1 {
+            len_at(heads, *child)?
+        } else {
+            dfs(heads, height - 1, *child)?
+        };
+        sum += count;
     }
     Ok(sum)
 }
