@@ -4,8 +4,7 @@
 --   Grew                the tables hold what grew out of the part f, the supply has given what it took, and all else is as it was
 --   Unchanged           tables and supply are as they were
 --   seated, coming      the children of a node while what came of one of them is put in
---   cost es             how many nodes it takes to put an entry into a node with the entries es
-use Rattle.std.specs.Prelude.{◌≡◌, ℕ, ◌+◌, ◌-◌, cond, List, [], ◌∷◌, length, Ok, Result, nat_lt}
+use Rattle.std.specs.Prelude.{◌≡◌, ℕ, ◌+◌, ◌-◌, List, [], ◌∷◌, length, Ok, Result}
 use Rattle.supply.specs.declared.faults.Fault.{Fault}
 use Rattle.supply.specs.Stocks.{Stock}
 use Rattle.node.specs.Shape.{Tree, number, total}
@@ -51,7 +50,3 @@ coming (l ∷ new) = new
 -- numbers of node m, of its children and of the ones that come
 abbrev pub members : {E : Type 0} → ℕ → ℕ → List (Tree E) → List (Tree E) → ℕ → ℕ
 members h m ts new x = same x m + (total (occurs x (h - 1)) ts + total (occurs x (h - 1)) new)
-
--- how many nodes it takes to put an entry into a node with these
-abbrev pub cost : {E : Type 0} → List E → ℕ
-cost es = cond (nat_lt (length es) 11) 0 1

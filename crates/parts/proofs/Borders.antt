@@ -1,12 +1,12 @@
 -- Trees with a border: lists of which one is unlike the others, and trees whose border nodes may have any number of entries up to 11.
 use Rattle.std.proofs.Common.{◌≡◌, ℕ, zero, suc, ◌+◌, ◌<◌, ◌≤◌, List, [], ◌∷◌, ◌++◌, length, get_or, take, drop, All, sym, refl, ap, ◌∙◌, subst, zero-add, arith}
 use Rattle.std.proofs.lemmas.List.Elements.{All-append, All-take, All-drop, All-nil, All-cons, All-head, All-tail}
-use Rattle.node.specs.Shape.{Tree, row, kids, mk, Within, fan_out}
+use Rattle.node.specs.Shape.{Tree, row, kids, mk, Within}
 use Rattle.node.specs.declared.ends.Side.{Side}
 use Rattle.node.specs.declared.ends.Side.TheVariants.{First, Last}
 use Rattle.node.specs.Ends.{end_index}
 use Rattle.node.proofs.Weaves.{trees_forest}
-use Rattle.rules.proofs.Nodes.{Limbs}
+use Rattle.rules.proofs.Nodes.{fan_out, Limbs}
 
 -- Q of the one at j, and P of the others
 abbrev pub Around : {X : Type 0} → (X → Type 0) → (X → Type 0) → ℕ → List X → Type 0

@@ -1,7 +1,7 @@
 -- The node numbers of the parts of a cut.
 use Rattle.std.proofs.Common.{◌≡◌, ℕ, zero, suc, ◌+◌, ◌-◌, ◌<◌, ◌≤◌, Bool, List, [], ◌∷◌, ◌++◌, length, take, drop, sym, refl, ap, subst, arith, length-drop}
 use lib.Seq.{split_at}
-use Rattle.node.specs.Shape.{Tree, node, none, number, row, kids, kid, mk, weigh, total, Within, fan_out, root_least}
+use Rattle.node.specs.Shape.{Tree, node, none, number, row, kids, kid, mk, weigh, total, Within, root_least}
 use Rattle.node.specs.declared.ends.Side.{Side}
 use Rattle.node.specs.declared.ends.Side.TheVariants.{First, Last}
 use Rattle.node.specs.Ends.{end_index}
@@ -11,7 +11,7 @@ use Rattle.rules.specs.Rules.{weighs, upto}
 use Rattle.parts.specs.Rules.{cut_left, cut_right, beside, onward, mend_at, mend, lifted, fix_top, repair}
 use Rattle.parts.specs.Laws.{CutNumbers}
 use Rattle.node.proofs.Weaves.{trees_forest, total_append}
-use Rattle.rules.proofs.Nodes.{weigh_mk, within_fan, within_from, within_kid, part_weigh, risen, sprung}
+use Rattle.rules.proofs.Nodes.{fan_out, weigh_mk, within_fan, within_from, within_kid, part_weigh, risen, sprung}
 use Rattle.rules.proofs.Ways.{index_le}
 use Rattle.parts.proofs.Borders.{Edge, edge_fan, edge_fringe, around_at}
 use Rattle.parts.proofs.Mends.{Pair, Ready, share, joint_cases, joint_ready, fill_is, beside_end, end_none, pair_of, pair_fan, two_at, mend_ok, top_edge, left_edge, right_edge}

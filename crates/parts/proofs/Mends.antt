@@ -5,17 +5,17 @@ use lib.Seq.{split_at, take-nil, drop-nil, take-append-le, drop-append-le, take-
 use Rattle.std.proofs.lemmas.List.Elements.{All-take, All-drop, All-append, All-nil}
 use Rattle.std.proofs.lemmas.List.{map-append, nil_from_length, get_or_append_left}
 use Rattle.std.proofs.lemmas.Bool.{cond_both, leb-true, leb-false, ltb-true, ltb-false}
-use Rattle.node.specs.Shape.{Tree, node, none, number, row, kids, kid, mk, flat, weave, before, after, Within, Formed, fan_out, root_least}
+use Rattle.node.specs.Shape.{Tree, node, none, number, row, kids, kid, mk, flat, weave, before, after, Within, Formed, root_least}
 use Rattle.node.specs.declared.ends.Side.{Side}
 use Rattle.node.specs.declared.ends.Side.TheVariants.{First, Last}
 use Rattle.node.specs.Ends.{end_index}
 use Rattle.node.specs.Rules.{Grown, whole, parted, Choice, merge, move, leave, bordering, moved, chosen, joint}
 use Rattle.node.specs.Sorted.{Sorted, index}
-use Rattle.rules.specs.Rules.{low, high, flats, part}
+use Rattle.rules.specs.Rules.{low, high, part}
 use Rattle.parts.specs.Rules.{cut_left, cut_right, beside, onward, fill, mend_at, mend, lifted, fix_top, repair, left_part, right_part}
 use Rattle.parts.specs.Laws.{CutFormed, CutFlat, CutParts, CutSorted}
 use Rattle.node.proofs.Weaves.{weave_cons, weave_join, flat_mk, all_one, all_two}
-use Rattle.rules.proofs.Nodes.{flat_leaf, flat_inner, flat_patch, within_mk, within_least, within_most, within_fan, within_limbs, within_from, within_kid, part_flat, risen, sprung, fan_take, fan_drop}
+use Rattle.rules.proofs.Nodes.{fan_out, flats, flat_leaf, flat_inner, flat_patch, within_mk, within_least, within_most, within_fan, within_limbs, within_from, within_kid, part_flat, risen, sprung, fan_take, fan_drop}
 use Rattle.rules.proofs.Sorts.{sorted_parts}
 use Rattle.rules.proofs.Ways.{index_le, way_flat, way_sides}
 use Rattle.parts.proofs.Borders.{around_right, around_take, around_drop, around_at, around_off, Edge, Fringe, edge_mk, edge_most, edge_fan, edge_fringe, edge_leaf, fringe_last, fringe_first, fringe_last_part, fringe_first_part}

@@ -3,10 +3,20 @@ use Rattle.std.proofs.Common.{◌≡◌, ℕ, zero, suc, ◌+◌, ◌<◌, ◌�
 use lib.Seq.{split_at}
 use Rattle.std.proofs.lemmas.List.Elements.{All-take, All-drop, All-append, All-get_or}
 use Rattle.std.proofs.lemmas.List.{take-map, drop-map, map-append}
-use Rattle.node.specs.Shape.{Tree, node, none, row, kids, kid, mk, flat, weave, before, after, total, weigh, Within, fan_out}
-use Rattle.rules.specs.Rules.{flats, weighs, part}
+use Rattle.node.specs.Shape.{Tree, node, none, row, kids, kid, mk, flat, weave, before, after, total, weigh, Within}
+use Rattle.rules.specs.Rules.{weighs, part}
 use Rattle.node.specs.Rules.{Grown, whole, parted}
 use Rattle.node.proofs.Weaves.{trees_forest, weave_cons, weave_mid, weave_part, total_cut}
+
+-- how many children a node of n entries has
+abbrev pub fan_out : ℕ → ℕ → ℕ
+fan_out zero n = 0
+fan_out (suc h) n = suc n
+
+-- the entries of what grew, in order
+abbrev pub flats : {E : Type 0} → ℕ → Grown E → List E
+flats h (whole t) = flat h t
+flats h (parted l x r) = flat h l ++ x ∷ flat h r
 
 module _ {E : Type 0} where
   pub flat_leaf : (t : Tree E) → flat zero t ≡ row t

@@ -20,10 +20,6 @@ high b zero t = drop (index b (row t)) (row t)
 high b (suc h) t =
     high b h (kid t (index b (row t))) ++ after (map (flat h) (drop (suc (index b (row t))) (kids t))) (drop (index b (row t)) (row t))
 
-abbrev pub flats : {E : Type 0} → ℕ → Grown E → List E
-flats h (whole t) = flat h t
-flats h (parted l x r) = flat h l ++ x ∷ flat h r
-
 abbrev pub weighs : {E : Type 0} → (ℕ → ℕ) → ℕ → Grown E → ℕ
 weighs w h (whole t) = weigh w h t
 weighs w h (parted l x r) = weigh w h l + weigh w h r
