@@ -3,13 +3,13 @@ use Rattle.std.proofs.Common.{◌≡◌, ℕ, zero, suc, ◌+◌, ◌<◌, ◌�
 use lib.Seq.{split_at}
 use Rattle.std.proofs.lemmas.List.Elements.{All-take, All-drop, All-append, All-cons}
 use Rattle.std.proofs.lemmas.Bool.{cond_both, cond-true, cond-false, leb-true, leb-false, ltb-true, ltb-false, lt-ltb, le-ltb, le-leb, lt-leb}
-use Rattle.node.specs.Shape.{Tree, node, none, number, row, kids, kid, mk, flat, weave, before, after, total, weigh, Within, Formed, fan_out, root_least}
+use Rattle.node.specs.Shape.{Tree, node, none, number, row, kids, kid, mk, flat, weave, before, after, total, weigh, Within, Formed, root_least}
 use Rattle.rules.specs.Rules.{low, high, part, rise, grow, planted, run, upto}
 use Rattle.node.specs.Rules.{Grown, whole, parted, settle, put, swap}
 use Rattle.node.specs.Sorted.{index}
 use Rattle.rules.specs.Laws.{InsertFormed, InsertFlat, InsertNumbers, InsertSize, GrowAgrees}
 use Rattle.node.proofs.Weaves.{trees_forest, total_append, flat_mk, all_two}
-use Rattle.rules.proofs.Nodes.{flats, flat_leaf, flat_patch, weigh_mk, within_mk, within_least, within_most, within_fan, within_limbs, within_kid, Limbs, part_flat, part_weigh, part_within}
+use Rattle.rules.proofs.Nodes.{fan_out, flats, flat_leaf, flat_patch, weigh_mk, within_mk, within_least, within_most, within_fan, within_limbs, within_kid, Limbs, part_flat, part_weigh, part_within}
 use Rattle.rules.proofs.Ways.{index_le}
 use Rattle.rules.proofs.Puts.{Fits, part_low, part_high}
 
