@@ -117,6 +117,7 @@ impl Way {
 
     /// Goes down by the search as long as the next node has room: what is put in there changes no node above. Answers the last such node
     /// with the result of the search in it.
+    #[inline(always)]
     fn lower<K: KeyOrder, V>(
         self,
         tables: &Tables<'_, K, V>,

@@ -4,6 +4,7 @@ ghost use Rattle.std.specs.Prelude.{◌≡◌, ◌+◌, ◌<◌, ◌≤◌, [], 
 ghost use Rattle.node.specs.Cells.{span, Put};
 
 /// Copies `count` cells from `from` on to those from `to` on.
+#[inline(always)]
 pub(crate) fn move_cells<T: Copy>(cells: &mut [T], from: usize, to: usize, count: usize)
     requires source { from + count ≤ length cells.old }
     requires target { to + count ≤ length cells.old }
@@ -13,6 +14,7 @@ pub(crate) fn move_cells<T: Copy>(cells: &mut [T], from: usize, to: usize, count
 }
 
 /// Puts `val` at `at`, and the `behind` cells that stood from there on behind it.
+#[inline(always)]
 pub(crate) fn slice_insert<T: Copy>(cells: &mut [T], at: usize, behind: usize, val: T)
     requires { at + behind < length cells.old }
     ensures { Put cells.old cells.new at (val ∷ span cells.old at behind) }

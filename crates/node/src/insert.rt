@@ -14,6 +14,7 @@ use crate::tables::Tables;
 use supply::Fault;
 
 /// How many entries `node` has, where it has room for one at `idx`.
+#[inline(always)]
 fn room_in<K, V>(tables: &Tables<'_, K, V>, node: u16, idx: usize) -> Result<usize, Fault>
     ensures { MatchResult result (λ n. Lies tables.now node n × (n < 11) × (idx ≤ n)) (λ _. (Sized tables.now → node < length tables.now.heads → (head_at tables.now node).len < 11 → idx ≤ (head_at tables.now node).len → ⊥)) }
 {
@@ -26,6 +27,7 @@ fn room_in<K, V>(tables: &Tables<'_, K, V>, node: u16, idx: usize) -> Result<usi
 
 impl Leaf {
     /// Puts an entry at `idx` into a node that has room; its edges stay.
+    #[inline(always)]
     pub fn insert_fit<K: Copy, V: Copy>(
         self,
         heads: &mut [Head],
