@@ -58,6 +58,8 @@ while lines > 0:
     elif kind < 0.95:
         say("l", place(numbers.choice(("map", "walk"))))
     elif kind < 0.97:
-        say("s", place("map"))
+        say("s", place(numbers.choice(("map", "walk"))))
+    elif kind < 0.98:
+        say("a")
     else:
         say("f")

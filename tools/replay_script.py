@@ -1,9 +1,10 @@
 #!/usr/bin/env python3
-"""Writes the script that crates/replay performs: puts, lookups, cuts, walks, releases, shapes and counts on sixteen places.
+"""Writes the script that crates/replay performs: puts, lookups, cuts, walks, releases, audits, shapes and counts on sixteen places.
 
 The answers in crates/replay/stdout are the original's: its map, version 0.4.9, unedited, was given the same calls by a driver that keeps sixteen
 of its maps under an allocator which grants as many nodes as crates/replay/args says. The driver asks the map beforehand how many nodes a call
-takes, and prints `refused 6` with that number and the allowance where there are too few.
+takes, and prints `refused 6` with that number and the allowance where there are too few. For an audit it looks whether each map is in good form, and
+the nodes that are out are those that the maps and walks reach.
 """
 import random
 
@@ -25,6 +26,18 @@ def look(*places):
         say("s", p)
         say("l", p)
     say("f")
+    say("a")
+
+
+def walk(place, letters, every):
+    """Steps at these ends, with the nodes out behind each; a look in front, behind every so many, and at the end."""
+    look(place)
+    for number, letter in enumerate(letters, 1):
+        say(letter, place)
+        if number % every == 0 or number == len(letters):
+            look(place)
+        else:
+            say("f")
 
 
 # one tree of 12, cut at every position
@@ -53,10 +66,20 @@ for k in range(0, 26):
 look(0)
 for line in ("p 16 1 1", "g 16 1", "c 16 0 1", "c 0 16 1", "c 0 0 5", "w 16", "n 0", "b 3", "e 0", "l 5", "s 5", "g 5 1", "c 5 6 1", "r 5", "r 16", "l 16"):
     out.append(line)
+say("a")
 say("w", 5)
-for line in ("n 5", "b 5", "p 5 1 1", "c 0 5 3", "c 5 6 3", "w 5", "r 5", "l 5", "e 5", "s 5"):
+for line in ("s 5", "a", "n 5", "b 5", "p 5 1 1", "c 0 5 3", "c 5 6 3", "w 5", "r 5", "l 5", "s 5", "a", "e 5", "s 5", "s 16", "a"):
     out.append(line)
 say("r", 0)
+
+# a walk over a root without entries, as a cut below all of them leaves it
+build(0, range(1, 4))
+say("c", 0, 1, 0)
+for place in (0, 1):
+    say("w", place)
+    walk(place, "nbnb", 1)
+    say("e", place)
+    look(place)
 
 # heights 2 and 3, cut again and again
 for order, size in ((1, 150), (2, 420), (3, 700)):
@@ -75,25 +98,25 @@ for order, size in ((1, 150), (2, 420), (3, 700)):
     for k in numbers.sample(range(0, 2 * size), 30):
         say("p", numbers.choice(used), k, 7)
     look(*used)
-    for p in used:
+    for p in used[:4]:
+        say("w", p)
+        walk(p, numbers.choices("nb", k=40), 10)
+        say("e", p)
+        say("a")
+    for p in used[4:]:
         say("r", p)
     say("f")
+    say("a")
 
 # mixed walks at heights 0 to 3
 for size in (0, 1, 5, 11, 12, 40, 88, 89, 300, 640):
     build(4, range(1, size + 1))
     say("w", 4)
-    say("l", 4)
-    for step in range(size + 3):
-        say(numbers.choice("nnb") if size % 2 else numbers.choice("nbb"), 4)
-        if step % 11 == 0:
-            say("f")
-        if step == 250:
-            break
-    say("l", 4)
-    say("f")
+    ends = "nnb" if size % 2 else "nbb"
+    walk(4, numbers.choices(ends, k=min(size + 3, 251)), 1 if size < 20 else 11 if size < 100 else 60)
     say("e", 4)
     say("f")
+    say("a")
 
 # front alone and back alone, to the end
 for letter in "nb":
@@ -102,7 +125,26 @@ for letter in "nb":
     for step in range(101):
         say(letter, 6)
         say("f")
+        if step % 9 == 0:
+            say("s", 6)
+            say("a")
     say("e", 6)
+
+# two walks at once, while other places take the nodes that they give back
+for place in (0, 1):
+    build(place, range(place, 120, 2 + place))
+    say("w", place)
+for turn in range(8):
+    for place in (0, 1):
+        walk(place, numbers.choices("nb", k=6), 6)
+    build(2, range(turn, 400, 23))
+    say("c", 2, 3, 40 * turn)
+    look(2, 3)
+    say("r", 3)
+for place in (0, 1):
+    say("e", place)
+say("r", 2)
+look(0, 1, 2)
 
 # height 4, with few nodes left: refusals, and what they leave
 build(7, range(1900, 0, -1))
@@ -112,6 +154,9 @@ look(7, 8)
 say("c", 7, 9, 950)
 say("c", 8, 9, 3100)
 look(7, 8, 9)
+say("p", 16, 1, 1)
+say("p", 8, 3400, 1)
+say("a")
 say("r", 8)
 say("c", 7, 10, 950)
 look(7, 10)
@@ -119,10 +164,9 @@ for k in range(0, 1900, 19):
     say("g", 7, k)
     say("g", 10, k)
 say("w", 10)
-for _ in range(120):
-    say(numbers.choice("nb"), 10)
-say("f")
+walk(10, numbers.choices("nb", k=120), 60)
 say("e", 10)
+say("a")
 for p in (7, 8, 9, 10):
     say("r", p)
 say("f")

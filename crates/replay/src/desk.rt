@@ -1,5 +1,6 @@
 //! A bank of sixteen books, with tables of its own.
 
+use crate::path::Ends;
 use crate::reply::{BlendAnswer, Reply};
 use crate::script::{BlendCall, Line};
 use crate::shape::Shape;
@@ -12,6 +13,7 @@ use order::keys::{KeyOrder, Placing};
 use std::alloc::Global;
 use supply::Supply;
 use supply::links::Chain;
+use walk::walks::Walk;
 
 const FREE: Head = Head {
     parent: 9,
@@ -61,6 +63,18 @@ impl Desk {
         self.bank.perform(heads, keys, values, call)
     }
 
+    /// What is left of a tree between the ends of a walk, if the walk has nodes.
+    fn walk_shape(&self, walk: Walk) -> Option<Shape<'_>> {
+        let heads = self.heads.as_slice();
+        let ends = Ends::of(heads, walk);
+        Some(Shape {
+            heads,
+            keys: self.keys.as_slice(),
+            root: ends.root()?,
+            ends: Some(ends),
+        })
+    }
+
     /// What stands in a place.
     fn shape(&self, place: usize) -> Result<Reply<'_>, Refusal>
         ensures { MatchResult result (λ _. place < 16) (λ e. (e ≡ Refusal.Place) × (16 ≤ place)) }
@@ -71,8 +85,12 @@ impl Desk {
                 heads: self.heads.as_slice(),
                 keys: self.keys.as_slice(),
                 root,
+                ends: None,
             }),
-            Place::Walk(_) => Reply::Walk,
+            Place::Walk(walk) => Reply::Walk {
+                left: walk.left,
+                shape: self.walk_shape(walk),
+            },
         })
     }
 

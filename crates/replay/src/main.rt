@@ -4,6 +4,7 @@
 #![tactic(auto)]
 
 mod desk;
+mod path;
 mod reply;
 mod script;
 mod shape;

@@ -14,7 +14,11 @@ pub enum Reply<'a> {
     Answer(BlendAnswer),
     Bare,
     Tree(Shape<'a>),
-    Walk,
+    /// How many entries are left, and what of the tree, if the walk has nodes.
+    Walk {
+        left: usize,
+        shape: Option<Shape<'a>>,
+    },
     /// How many nodes are out.
     Out(u16),
 }
@@ -25,7 +29,11 @@ impl fmt::Display for Reply<'_> {
             Reply::Answer(answer) => write_answer(f, *answer),
             Reply::Bare => write!(f, "bare"),
             Reply::Tree(shape) => write!(f, "{shape}"),
-            Reply::Walk => write!(f, "walk"),
+            Reply::Walk { left, shape: None } => write!(f, "walk {left} bare"),
+            Reply::Walk {
+                left,
+                shape: Some(shape),
+            } => write!(f, "walk {left} {shape}"),
             Reply::Out(count) => write!(f, "{count}"),
         }
     }
@@ -44,6 +52,7 @@ fn write_answer<W: fmt::Write>(f: &mut fmt::Formatter<W>, answer: BlendAnswer) -
         Answer::Handed(None) => write!(f, "none"),
         Answer::Handed(Some((key, value))) => write!(f, "{key} {value}"),
         Answer::Dropped(count) => write!(f, "{count}"),
-        Answer::Audited(good) => write!(f, "{good}"),
+        Answer::Audited(true) => write!(f, "yes"),
+        Answer::Audited(false) => write!(f, "no"),
     }
 }

@@ -86,6 +86,7 @@ fn call_named(name: &str, place: usize, second: u32, third: u32) -> Result<Blend
         "e" => Ok(Call::Close { place }),
         "r" => Ok(Call::Release { place }),
         "l" => Ok(Call::Count { place }),
+        "a" => Ok(Call::Audit),
         _ => Err(NoLine),
     }
 }

@@ -1,18 +1,21 @@
-//! A tree in writing: a leaf as `[LEN: k k]`, another node as `(LEN: CHILD k CHILD)`.
+//! A tree in writing: a leaf as `[LEN: k k]`, another node as `(LEN: CHILD k CHILD)`. In a walk only what is left of it, behind the edges of each
+//! node between which that lies: `[LEN@FIRST-LAST: k k]`.
 
 ghost use Rattle.std.specs.Prelude.{◌<◌};
 
+use crate::path::{Ends, Span};
 use node::head::{CAPACITY, Head};
-use node::nodes::NodeRef;
+use node::nodes::{ForceResult, NodeRef};
 use order::blend::BlendNumber;
 use std::fmt;
 
-/// A tree to be written, with `?` for each node and key that lies outside the tables.
+/// A tree to be written, or what is left of it between two ends, with `?` for each node and key that lies outside the tables.
 #[derive(Clone, Copy)]
 pub struct Shape<'a> {
     pub heads: &'a [Head],
     pub keys: &'a [BlendNumber],
     pub root: NodeRef,
+    pub ends: Option<Ends>,
 }
 
 impl Shape<'_> {
@@ -31,26 +34,47 @@ impl Shape<'_> {
         }
     }
 
-    /// Writes the tree of this height under `node`.
-    fn write_node<W: fmt::Write>(
+    /// Writes how many entries a node has, and answers which part of it is to be listed.
+    fn write_len<W: fmt::Write>(
         &self,
         f: &mut fmt::Formatter<W>,
-        height: u16,
-        node: u16,
-    ) -> fmt::Result {
-        let Some(head) = self.heads.get(node as usize) else {
+        node: NodeRef,
+        len: usize,
+    ) -> Result<Span, fmt::Error> {
+        let Some(ends) = self.ends else {
+            write!(f, "{len}:")?;
+            return Ok(Span {
+                first: 0,
+                last: len,
+            });
+        };
+        let span = ends.span(node, len);
+        write!(f, "{len}@{}-{}:", span.first, span.last)?;
+        Ok(span)
+    }
+
+    /// Writes the tree under `node`.
+    fn write_node<W: fmt::Write>(&self, f: &mut fmt::Formatter<W>, node: NodeRef) -> fmt::Result {
+        let Some(head) = self.heads.get(node.node as usize) else {
             return write!(f, "?");
         };
         let len = CAPACITY.min(head.len as usize);
-        let (open, close) = if height == 0 { ("[", "]") } else { ("(", ")") };
-        write!(f, "{open}{len}:")?;
+        let (open, close) = match node.force() {
+            ForceResult::Leaf(_) => ("[", "]"),
+            ForceResult::Internal(_) => ("(", ")"),
+        };
+        write!(f, "{open}")?;
+        let span = self.write_len(f, node, len)?;
         for (idx, child) in head.edges[..=len].iter().enumerate() {
-            if height > 0 {
-                write!(f, " ")?;
-                self.write_node(f, height - 1, *child)?;
+            if idx < span.first || span.last < idx {
+                continue;
             }
-            if idx < len {
-                self.write_key(f, node, idx)?;
+            if let ForceResult::Internal(inner) = node.force() {
+                write!(f, " ")?;
+                self.write_node(f, inner.child(*child))?;
+            }
+            if idx < len && idx < span.last {
+                self.write_key(f, node.node, idx)?;
             }
         }
         write!(f, "{close}")
@@ -59,6 +83,6 @@ impl Shape<'_> {
 
 impl fmt::Display for Shape<'_> {
     fn fmt<W: fmt::Write>(&self, f: &mut fmt::Formatter<W>) -> fmt::Result {
-        self.write_node(f, self.root.height, self.root.node)
+        self.write_node(f, self.root)
     }
 }
