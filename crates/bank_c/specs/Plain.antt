@@ -7,9 +7,6 @@ use Rattle.std.specs.Prelude.{◌≡◌, ℕ, ◌≤◌, cond, nat_eq, All, List
 use Rattle.supply.specs.Rows.{Chained, link_stock}
 use Rattle.supply.specs.Stocks.{Stock}
 use Rattle.node.specs.Store.{Tables}
-use Rattle.node.specs.declared.ends.Handle.{Handle}
-use Rattle.node.specs.declared.nodes.NodeRef.{NodeRef}
-use Rattle.walk.specs.declared.walks.Walk.{Walk}
 use Rattle.books.specs.declared.places.Place.{Place}
 use Rattle.books.specs.declared.places.Place.TheVariants as P
 use Rattle.books.specs.States.{State}

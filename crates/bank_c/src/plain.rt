@@ -12,7 +12,9 @@ use walk::walks::Walk;
 
 /// What `kind` of a place says.
 const BARE: u16 = 0;
+
 const TREE: u16 = 1;
+
 const WALK: u16 = 2;
 
 /// What stands in a place. A tree has a root, its height and the number of its entries; a walk has a leaf and an edge of it at each end, and

@@ -17,7 +17,7 @@ pub struct Verdict {
 }
 
 impl Verdict {
-    ghost use Rattle.std.specs.Prelude.{Ok, Err};
+    ghost use Rattle.std.specs.Prelude.{ℕ};
     ghost use Rattle.books.specs.Refusals.{code};
     ghost use Rattle.books.specs.declared.calls.Answer.TheVariants.{Opened};
     ghost use Rattle.order.specs.declared.blend.BlendNumber.{BlendNumber as Key};
@@ -113,6 +113,215 @@ impl InsertReply {
                 }
             }
             Err(refusal) => InsertReply::refused(Verdict::refusing(refusal)),
+        }
+    }
+}
+
+/// Whether the key is there, and if so its value; and the comparisons made.
+#[repr(C)]
+#[derive(Clone, Copy)]
+pub struct LookupReply {
+    pub verdict: Verdict,
+    pub found: bool,
+    pub value: u32,
+    pub comparisons: usize,
+}
+
+impl LookupReply {
+    ghost use Rattle.books.specs.declared.calls.Answer.TheVariants.{Found};
+    ghost use Rattle.order.specs.declared.blend.BlendNumber.{BlendNumber as Key};
+    ghost use Rattle.acts.specs.Acts.{found};
+    ghost use Rattle.bank.specs.Calls.{told};
+    ghost use Rattle.bank_c.specs.Replies.{told_by};
+
+    pub(crate) fn refused(verdict: Verdict) -> LookupReply
+        ensures { result.verdict ≡ verdict }
+    {
+        LookupReply {
+            verdict,
+            found: false,
+            value: 0,
+            comparisons: 0,
+        }
+    }
+
+    pub(crate) fn of(answer: Result<(Option<u32>, usize), Refusal>) -> LookupReply
+        ensures { told_by result.verdict (Found (optional result.found result.value) result.comparisons) ≡ told {K = Key} found answer }
+    {
+        match answer {
+            Ok((value, comparisons)) => {
+                let (found, value) = flagged(value);
+                LookupReply {
+                    verdict: Verdict::GRANTED,
+                    found,
+                    value,
+                    comparisons,
+                }
+            }
+            Err(refusal) => LookupReply::refused(Verdict::refusing(refusal)),
+        }
+    }
+}
+
+/// How many entries there are, or were dropped.
+#[repr(C)]
+#[derive(Clone, Copy)]
+pub struct CountReply {
+    pub verdict: Verdict,
+    pub count: usize,
+}
+
+impl CountReply {
+    ghost use Rattle.std.specs.Prelude.{ℕ};
+    ghost use Rattle.books.specs.declared.calls.Answer.{Answer};
+    ghost use Rattle.order.specs.declared.blend.BlendNumber.{BlendNumber as Key};
+    ghost use Rattle.bank.specs.Calls.{told};
+    ghost use Rattle.bank_c.specs.Replies.{told_by};
+
+    pub(crate) fn refused(verdict: Verdict) -> CountReply
+        ensures { result.verdict ≡ verdict }
+    {
+        CountReply { verdict, count: 0 }
+    }
+
+    pub(crate) fn of(answer: Result<usize, Refusal>) -> CountReply
+        ensures { (f : ℕ → Answer Key ℕ) → told_by result.verdict (f result.count) ≡ told f answer }
+    {
+        match answer {
+            Ok(count) => CountReply {
+                verdict: Verdict::GRANTED,
+                count,
+            },
+            Err(refusal) => CountReply::refused(Verdict::refusing(refusal)),
+        }
+    }
+}
+
+/// The entries left, the entries right, and the comparisons made.
+#[repr(C)]
+#[derive(Clone, Copy)]
+pub struct CutReply {
+    pub verdict: Verdict,
+    pub left: usize,
+    pub right: usize,
+    pub comparisons: usize,
+}
+
+impl CutReply {
+    ghost use Rattle.std.specs.Prelude.{ℕ};
+    ghost use Rattle.books.specs.declared.calls.Answer.TheVariants.{Parted};
+    ghost use Rattle.order.specs.declared.blend.BlendNumber.{BlendNumber as Key};
+    ghost use Rattle.acts.specs.Acts.{counts};
+    ghost use Rattle.bank.specs.Calls.{told};
+    ghost use Rattle.bank_c.specs.Replies.{told_by};
+
+    pub(crate) fn refused(verdict: Verdict) -> CutReply
+        ensures { result.verdict ≡ verdict }
+    {
+        CutReply {
+            verdict,
+            left: 0,
+            right: 0,
+            comparisons: 0,
+        }
+    }
+
+    pub(crate) fn of(answer: Result<(usize, usize, usize), Refusal>) -> CutReply
+        ensures { told_by result.verdict (Parted result.left result.right result.comparisons) ≡ told {K = Key} {V = ℕ} counts answer }
+    {
+        match answer {
+            Ok((left, right, comparisons)) => CutReply {
+                verdict: Verdict::GRANTED,
+                left,
+                right,
+                comparisons,
+            },
+            Err(refusal) => CutReply::refused(Verdict::refusing(refusal)),
+        }
+    }
+}
+
+/// Whether an entry was left, and if so its key and its value.
+#[repr(C)]
+#[derive(Clone, Copy)]
+pub struct StepReply {
+    pub verdict: Verdict,
+    pub handed: bool,
+    pub key: u32,
+    pub value: u32,
+}
+
+impl StepReply {
+    ghost use Rattle.books.specs.declared.calls.Answer.TheVariants.{Handed};
+    ghost use Rattle.bank.specs.Calls.{told};
+    ghost use Rattle.bank_c.specs.Replies.{told_by};
+    ghost use Rattle.bank_c.specs.Serves.{blend};
+
+    pub(crate) fn refused(verdict: Verdict) -> StepReply
+        ensures { result.verdict ≡ verdict }
+    {
+        StepReply {
+            verdict,
+            handed: false,
+            key: 0,
+            value: 0,
+        }
+    }
+
+    pub(crate) fn of(answer: Result<Option<(BlendNumber, u32)>, Refusal>) -> StepReply
+        ensures { told_by result.verdict (Handed (optional result.handed (blend result.key, result.value))) ≡ told Handed answer }
+    {
+        match answer {
+            Ok(Some((key, value))) => StepReply {
+                verdict: Verdict::GRANTED,
+                handed: true,
+                key: key.number,
+                value,
+            },
+            Ok(None) => StepReply {
+                verdict: Verdict::GRANTED,
+                handed: false,
+                key: 0,
+                value: 0,
+            },
+            Err(refusal) => StepReply::refused(Verdict::refusing(refusal)),
+        }
+    }
+}
+
+/// Whether the bank is in good form.
+#[repr(C)]
+#[derive(Clone, Copy)]
+pub struct AuditReply {
+    pub verdict: Verdict,
+    pub good: bool,
+}
+
+impl AuditReply {
+    ghost use Rattle.std.specs.Prelude.{ℕ};
+    ghost use Rattle.books.specs.declared.calls.Answer.TheVariants.{Audited};
+    ghost use Rattle.order.specs.declared.blend.BlendNumber.{BlendNumber as Key};
+    ghost use Rattle.bank.specs.Calls.{told};
+    ghost use Rattle.bank_c.specs.Replies.{told_by};
+
+    pub(crate) fn refused(verdict: Verdict) -> AuditReply
+        ensures { result.verdict ≡ verdict }
+    {
+        AuditReply {
+            verdict,
+            good: false,
+        }
+    }
+
+    pub(crate) fn of(answer: Result<bool, Refusal>) -> AuditReply
+        ensures { told_by result.verdict (Audited result.good) ≡ told {K = Key} {V = ℕ} Audited answer }
+    {
+        match answer {
+            Ok(good) => AuditReply {
+                verdict: Verdict::GRANTED,
+                good,
+            },
+            Err(refusal) => AuditReply::refused(Verdict::refusing(refusal)),
         }
     }
 }
