@@ -1,6 +1,6 @@
 //! What the calls answer, as plain fields.
 
-ghost use Rattle.std.specs.Prelude.{◌≡◌};
+ghost use Rattle.std.specs.Prelude.{◌≡◌, ◌≤◌};
 ghost use Rattle.bank_c.specs.Replies.{optional};
 
 use books::refusals::Refusal;
@@ -56,6 +56,7 @@ impl Verdict {
     /// Of a call that answers only that it was done.
     pub(crate) fn of(answer: Result<(), Refusal>) -> Verdict
         ensures done { told_by result tt ≡ coded answer }
+        ensures known { result.code ≤ 6 }
         ensures opened { told_by result Opened ≡ told {K = Key} {V = ℕ} opened answer }
     {
         match answer {
@@ -101,7 +102,8 @@ impl InsertReply {
     }
 
     pub(crate) fn of(answer: Result<Option<u32>, Refusal>) -> InsertReply
-        ensures { told_by result.verdict (Inserted (optional result.replaced result.old)) ≡ told {K = Key} Inserted answer }
+        ensures told { told_by result.verdict (Inserted (optional result.replaced result.old)) ≡ told {K = Key} Inserted answer }
+        ensures known { result.verdict.code ≤ 6 }
     {
         match answer {
             Ok(value) => {
@@ -146,7 +148,8 @@ impl LookupReply {
     }
 
     pub(crate) fn of(answer: Result<(Option<u32>, usize), Refusal>) -> LookupReply
-        ensures { told_by result.verdict (Found (optional result.found result.value) result.comparisons) ≡ told {K = Key} found answer }
+        ensures told { told_by result.verdict (Found (optional result.found result.value) result.comparisons) ≡ told {K = Key} found answer }
+        ensures known { result.verdict.code ≤ 6 }
     {
         match answer {
             Ok((value, comparisons)) => {
@@ -185,7 +188,8 @@ impl CountReply {
     }
 
     pub(crate) fn of(answer: Result<usize, Refusal>) -> CountReply
-        ensures { (f : ℕ → Answer Key ℕ) → told_by result.verdict (f result.count) ≡ told f answer }
+        ensures told { (f : ℕ → Answer Key ℕ) → told_by result.verdict (f result.count) ≡ told f answer }
+        ensures known { result.verdict.code ≤ 6 }
     {
         match answer {
             Ok(count) => CountReply {
@@ -227,7 +231,8 @@ impl CutReply {
     }
 
     pub(crate) fn of(answer: Result<(usize, usize, usize), Refusal>) -> CutReply
-        ensures { told_by result.verdict (Parted result.left result.right result.comparisons) ≡ told {K = Key} {V = ℕ} counts answer }
+        ensures told { told_by result.verdict (Parted result.left result.right result.comparisons) ≡ told {K = Key} {V = ℕ} counts answer }
+        ensures known { result.verdict.code ≤ 6 }
     {
         match answer {
             Ok((left, right, comparisons)) => CutReply {
@@ -269,7 +274,8 @@ impl StepReply {
     }
 
     pub(crate) fn of(answer: Result<Option<(BlendNumber, u32)>, Refusal>) -> StepReply
-        ensures { told_by result.verdict (Handed (optional result.handed (blend result.key, result.value))) ≡ told Handed answer }
+        ensures told { told_by result.verdict (Handed (optional result.handed (blend result.key, result.value))) ≡ told Handed answer }
+        ensures known { result.verdict.code ≤ 6 }
     {
         match answer {
             Ok(Some((key, value))) => StepReply {
@@ -314,7 +320,8 @@ impl AuditReply {
     }
 
     pub(crate) fn of(answer: Result<bool, Refusal>) -> AuditReply
-        ensures { told_by result.verdict (Audited result.good) ≡ told {K = Key} {V = ℕ} Audited answer }
+        ensures told { told_by result.verdict (Audited result.good) ≡ told {K = Key} {V = ℕ} Audited answer }
+        ensures known { result.verdict.code ≤ 6 }
     {
         match answer {
             Ok(good) => AuditReply {
