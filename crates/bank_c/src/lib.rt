@@ -2,5 +2,6 @@
 #![tactic(auto)]
 
 pub mod exports;
+pub mod laws;
 pub mod plain;
 pub mod replies;

@@ -74,8 +74,8 @@ module _ (z : ℕ) (l : List ℕ) (h i node : ℕ) (seen : List Bool) (w : Walke
     unused = λ j q. last_or j q (λ k. get_or l (reached l h k) 0 ≡ 65535 → ⊥) w.unused (λ e. used (ap (λ x. get_or l x 0) w.here ∙ e));
     apart = λ j k p q. last_or k q (λ k. j < k → reached l h j ≡ reached l h k → ⊥) (λ k' q' p' e. w.apart j k' p' q' e) (λ p' e. strange j p' (e ∙ sym w.here)) p;
     marked = λ j q. last_or j q (λ k. get_or (set seen node true) (reached l h k) false ≡ true)
-      (λ k q'. get_or-set_other seen node (reached l h k) true false (λ e. strange k q' (sym (sym e))) ∙ w.marked k q')
-      (ap (λ x. get_or (set seen node true) x false) (sym w.here) ∙ get_or-set_same seen node true false (omega (arith, w.long)));
+        (λ k q'. get_or-set_other seen node (reached l h k) true false (λ e. strange k q' (sym (sym e))) ∙ w.marked k q')
+        (ap (λ x. get_or (set seen node true) x false) (sym w.here) ∙ get_or-set_same seen node true false (omega (arith, w.long)));
     met = λ x e. meeting x e (cases_lt x node) (cases_lt node x);
   }
     where
@@ -93,10 +93,11 @@ abbrev pub Row : ℕ → List ℕ → ℕ → ℕ → Type 0
 Row z l h n = Below z (row_of l h n) × Unused l (row_of l h n) × Apart (row_of l h n)
 
 pub row_walked : (z : ℕ) (l : List ℕ) (h n i node : ℕ) (seen : List Bool) → n ≤ i → Walked z l h i node seen → Row z l h n
-row_walked z l h n i node seen all w =
-    (λ j q. omega (arith, at j q, w.below j (omega (arith, low j q))),
-    λ j q e. w.unused j (omega (arith, low j q)) (ap (λ x. get_or l x 0) (sym (at j q)) ∙ e),
-    λ j k p q e. w.apart j k p (omega (arith, low k q)) (sym (at j (omega arith)) ∙ e ∙ at k q))
+row_walked z l h n i node seen all w = (
+  λ j q. omega (arith, at j q, w.below j (omega (arith, low j q))),
+  λ j q e. w.unused j (omega (arith, low j q)) (ap (λ x. get_or l x 0) (sym (at j q)) ∙ e),
+  λ j k p q e. w.apart j k p (omega (arith, low k q)) (sym (at j (omega arith)) ∙ e ∙ at k q),
+)
   where
     low : (i : ℕ) → i < length (row_of l h n) → i < n
     low i q = omega (arith, length_row l h n)

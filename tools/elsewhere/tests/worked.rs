@@ -160,14 +160,22 @@ fn there_is_no_place_sixteen() {
 #[test]
 fn what_stands_in_a_place_may_not_allow_the_call() {
     let mut bank = twelve(8);
-    assert_eq!(bank.next(0), Err(Refusal::Kind));
-    assert_eq!(bank.close(0), Err(Refusal::Kind));
+    for place in [0, 1] {
+        assert_eq!(bank.next(place), Err(Refusal::Kind));
+        assert_eq!(bank.next_back(place), Err(Refusal::Kind));
+        assert_eq!(bank.close(place), Err(Refusal::Kind));
+    }
     assert_eq!(bank.cut(0, 0, 7), Err(Refusal::Kind));
+    bank.insert(1, 1, 1).unwrap();
+    assert_eq!(bank.cut(0, 1, 7), Err(Refusal::Kind));
     bank.open(0).unwrap();
     assert_eq!(bank.insert(0, 1, 1), Err(Refusal::Kind));
     assert_eq!(bank.lookup(0, 1), Err(Refusal::Kind));
-    assert_eq!(bank.release(0), Err(Refusal::Kind));
+    assert_eq!(bank.cut(0, 2, 7), Err(Refusal::Kind));
+    assert_eq!(bank.cut(1, 0, 7), Err(Refusal::Kind));
     assert_eq!(bank.open(0), Err(Refusal::Kind));
+    assert_eq!(bank.release(0), Err(Refusal::Kind));
+    assert_eq!(bank.count(0), Ok(12));
 }
 
 #[test]

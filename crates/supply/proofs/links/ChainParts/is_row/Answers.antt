@@ -13,15 +13,16 @@ returns-then-node-links c =
     let long : length p.links ≡ 4096 = omega arith in
     let w = c.loop.invariant in
     let more : c.loop.counter < p.left = omega arith in
-    let part = length_part p.size p.links long c.requires in
-    (λ e. absurd (both_ways false refl e),
-    λ r. absurd (elim c.then-node-links.branch [
-      then-node-links-via-then-node-links u ↦ not_high p.size p.links p.head p.left c.loop.counter c.loop.node c.loop.seen w more r (omega arith)
-      | then-node-links-via-else-node-links+then-links-node u ↦
-          not_out p.size p.links p.head p.left c.loop.counter c.loop.node c.loop.seen w more r
-          (sym (part_at p.size p.links long c.requires c.loop.node (omega arith)) ∙ u.if-links-node.true)
-      | then-node-links-via-else-node-links+else-links-node+then-seen-node u ↦ not_twice p.size p.links p.head p.left c.loop.counter c.loop.node c.loop.seen w more r u.if-seen-node.true
-    ]))
+    let part = length_part p.size p.links long c.requires in (
+      λ e. absurd (both_ways false refl e),
+      λ r. absurd (elim c.then-node-links.branch [
+        | then-node-links-via-then-node-links u ↦ not_high p.size p.links p.head p.left c.loop.counter c.loop.node c.loop.seen w more r (omega arith)
+        | then-node-links-via-else-node-links+then-links-node u ↦
+            not_out p.size p.links p.head p.left c.loop.counter c.loop.node c.loop.seen w more r
+            (sym (part_at p.size p.links long c.requires c.loop.node (omega arith)) ∙ u.if-links-node.true)
+        | then-node-links-via-else-node-links+else-links-node+then-seen-node u ↦ not_twice p.size p.links p.head p.left c.loop.counter c.loop.node c.loop.seen w more r u.if-seen-node.true
+      ]),
+    )
 
 pub loop-preserved : goal.loop-preserved
 loop-preserved c =
