@@ -113,7 +113,7 @@ fn places_of(register: Register) -> [PlainPlace; PLACES]
     register.places.map(|place| PlainPlace::of(place))
 }
 
-/// The fields of a bank. Nothing but the functions of this library writes them.
+/// The fields of a bank, which may also hold anything else.
 #[repr(C)]
 #[derive(Clone, Copy)]
 pub struct PlainBank {

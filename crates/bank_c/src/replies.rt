@@ -91,6 +91,7 @@ impl InsertReply {
     ghost use Rattle.bank.specs.Calls.{told};
     ghost use Rattle.bank_c.specs.Replies.{told_by};
 
+    /// A reply that says only why there is none.
     pub(crate) fn refused(verdict: Verdict) -> InsertReply
         ensures { result.verdict ≡ verdict }
     {
@@ -101,6 +102,7 @@ impl InsertReply {
         }
     }
 
+    /// What the bank answered.
     pub(crate) fn of(answer: Result<Option<u32>, Refusal>) -> InsertReply
         ensures told { told_by result.verdict (Inserted (optional result.replaced result.old)) ≡ told {K = Key} Inserted answer }
         ensures known { result.verdict.code ≤ 6 }
@@ -136,6 +138,7 @@ impl LookupReply {
     ghost use Rattle.bank.specs.Calls.{told};
     ghost use Rattle.bank_c.specs.Replies.{told_by};
 
+    /// A reply that says only why there is none.
     pub(crate) fn refused(verdict: Verdict) -> LookupReply
         ensures { result.verdict ≡ verdict }
     {
@@ -147,6 +150,7 @@ impl LookupReply {
         }
     }
 
+    /// What the bank answered.
     pub(crate) fn of(answer: Result<(Option<u32>, usize), Refusal>) -> LookupReply
         ensures told { told_by result.verdict (Found (optional result.found result.value) result.comparisons) ≡ told {K = Key} found answer }
         ensures known { result.verdict.code ≤ 6 }
@@ -181,12 +185,14 @@ impl CountReply {
     ghost use Rattle.bank.specs.Calls.{told};
     ghost use Rattle.bank_c.specs.Replies.{told_by};
 
+    /// A reply that says only why there is none.
     pub(crate) fn refused(verdict: Verdict) -> CountReply
         ensures { result.verdict ≡ verdict }
     {
         CountReply { verdict, count: 0 }
     }
 
+    /// What the bank answered.
     pub(crate) fn of(answer: Result<usize, Refusal>) -> CountReply
         ensures told { (f : ℕ → Answer Key ℕ) → told_by result.verdict (f result.count) ≡ told f answer }
         ensures known { result.verdict.code ≤ 6 }
@@ -219,6 +225,7 @@ impl CutReply {
     ghost use Rattle.bank.specs.Calls.{told};
     ghost use Rattle.bank_c.specs.Replies.{told_by};
 
+    /// A reply that says only why there is none.
     pub(crate) fn refused(verdict: Verdict) -> CutReply
         ensures { result.verdict ≡ verdict }
     {
@@ -230,6 +237,7 @@ impl CutReply {
         }
     }
 
+    /// What the bank answered.
     pub(crate) fn of(answer: Result<(usize, usize, usize), Refusal>) -> CutReply
         ensures told { told_by result.verdict (Parted result.left result.right result.comparisons) ≡ told {K = Key} {V = ℕ} counts answer }
         ensures known { result.verdict.code ≤ 6 }
@@ -262,6 +270,7 @@ impl StepReply {
     ghost use Rattle.bank_c.specs.Replies.{told_by};
     ghost use Rattle.bank_c.specs.Serves.{blend};
 
+    /// A reply that says only why there is none.
     pub(crate) fn refused(verdict: Verdict) -> StepReply
         ensures { result.verdict ≡ verdict }
     {
@@ -273,6 +282,7 @@ impl StepReply {
         }
     }
 
+    /// What the bank answered.
     pub(crate) fn of(answer: Result<Option<(BlendNumber, u32)>, Refusal>) -> StepReply
         ensures told { told_by result.verdict (Handed (optional result.handed (blend result.key, result.value))) ≡ told Handed answer }
         ensures known { result.verdict.code ≤ 6 }
@@ -310,6 +320,7 @@ impl AuditReply {
     ghost use Rattle.bank.specs.Calls.{told};
     ghost use Rattle.bank_c.specs.Replies.{told_by};
 
+    /// A reply that says only why there is none.
     pub(crate) fn refused(verdict: Verdict) -> AuditReply
         ensures { result.verdict ≡ verdict }
     {
@@ -319,6 +330,7 @@ impl AuditReply {
         }
     }
 
+    /// What the bank answered.
     pub(crate) fn of(answer: Result<bool, Refusal>) -> AuditReply
         ensures told { told_by result.verdict (Audited result.good) ≡ told {K = Key} {V = ℕ} Audited answer }
         ensures known { result.verdict.code ≤ 6 }

@@ -1,8 +1,8 @@
 -- A row walked link by link, with a mark at each number that was met. Assumes nothing.
-use Rattle.std.proofs.Common.{◌≡◌, ℕ, zero, suc, ◌+◌, ◌<◌, ◌≤◌, Bool, true, false, List, length, get_or, set, take, replicate, sym, refl, ap, ◌∙◌, ◌⊎◌, inl, inr, ⊎_elim, add-one, arith}
+use Rattle.std.proofs.Common.{◌≡◌, ℕ, zero, suc, ◌+◌, ◌<◌, ◌≤◌, Bool, true, false, List, length, get_or, set, take, replicate, sym, refl, ap, ◌∙◌, subst, ◌⊎◌, inl, inr, ⊎_elim, add-one, arith}
 use Rattle.std.proofs.lemmas.List.{get_or-set_same, get_or-set_other, get_or-replicate, get_or_past, length-set, length-replicate, get_or-take, length-take-le}
 use Rattle.std.proofs.lemmas.Bool.{both_ways, cases_lt}
-use Rattle.supply.specs.Rows.{row_of, Below, Unused, Apart}
+use Rattle.supply.specs.Rows.{row_of, IsRow}
 
 -- the number that so many links lead to
 unfoldable pub reached : List ℕ → ℕ → ℕ → ℕ
@@ -61,10 +61,7 @@ module _ (z : ℕ) (l : List ℕ) (h i node : ℕ) (seen : List Bool) (w : Walke
   strange j q e = both_ways false refl (sym new ∙ ap (λ x. get_or seen x false) (sym e) ∙ w.marked j q)
 
   last_or : (j : ℕ) → j < i + 1 → (P : ℕ → Type 0) → ((k : ℕ) → k < i → P k) → P i → P j
-  last_or j q P f g = ⊎_elim (f j) (λ p. let e : i ≡ j = omega arith in subst_at P e g) (cases_lt j i)
-    where
-      subst_at : (P : ℕ → Type 0) {a b : ℕ} → a ≡ b → P a → P b
-      subst_at P e x = rw (← e) x
+  last_or j q P f g = ⊎_elim (f j) (λ p. let e : i ≡ j = omega arith in subst P e g) (cases_lt j i)
 
   pub walked_more : Walked z l h (i + 1) (get_or l node 0) (set seen node true)
   walked_more = record {
@@ -74,7 +71,7 @@ module _ (z : ℕ) (l : List ℕ) (h i node : ℕ) (seen : List Bool) (w : Walke
     unused = λ j q. last_or j q (λ k. get_or l (reached l h k) 0 ≡ 65535 → ⊥) w.unused (λ e. used (ap (λ x. get_or l x 0) w.here ∙ e));
     apart = λ j k p q. last_or k q (λ k. j < k → reached l h j ≡ reached l h k → ⊥) (λ k' q' p' e. w.apart j k' p' q' e) (λ p' e. strange j p' (e ∙ sym w.here)) p;
     marked = λ j q. last_or j q (λ k. get_or (set seen node true) (reached l h k) false ≡ true)
-        (λ k q'. get_or-set_other seen node (reached l h k) true false (λ e. strange k q' (sym (sym e))) ∙ w.marked k q')
+        (λ k q'. get_or-set_other seen node (reached l h k) true false (strange k q') ∙ w.marked k q')
         (ap (λ x. get_or (set seen node true) x false) (sym w.here) ∙ get_or-set_same seen node true false (omega (arith, w.long)));
     met = λ x e. meeting x e (cases_lt x node) (cases_lt node x);
   }
@@ -89,10 +86,7 @@ module _ (z : ℕ) (l : List ℕ) (h i node : ℕ) (seen : List Bool) (w : Walke
 
 -- ---- what comes of the walk
 
-abbrev pub Row : ℕ → List ℕ → ℕ → ℕ → Type 0
-Row z l h n = Below z (row_of l h n) × Unused l (row_of l h n) × Apart (row_of l h n)
-
-pub row_walked : (z : ℕ) (l : List ℕ) (h n i node : ℕ) (seen : List Bool) → n ≤ i → Walked z l h i node seen → Row z l h n
+pub row_walked : (z : ℕ) (l : List ℕ) (h n i node : ℕ) (seen : List Bool) → n ≤ i → Walked z l h i node seen → IsRow z l (row_of l h n)
 row_walked z l h n i node seen all w = (
   λ j q. omega (arith, at j q, w.below j (omega (arith, low j q))),
   λ j q e. w.unused j (omega (arith, low j q)) (ap (λ x. get_or l x 0) (sym (at j q)) ∙ e),
@@ -105,7 +99,7 @@ row_walked z l h n i node seen all w = (
     at : (i : ℕ) → i < length (row_of l h n) → get_or (row_of l h n) i 0 ≡ reached l h i
     at i q = row_at l h n i (low i q)
 
-module _ (z : ℕ) (l : List ℕ) (h n i node : ℕ) (seen : List Bool) (w : Walked z l h i node seen) (more : i < n) (r : Row z l h n) where
+module _ (z : ℕ) (l : List ℕ) (h n i node : ℕ) (seen : List Bool) (w : Walked z l h i node seen) (more : i < n) (r : IsRow z l (row_of l h n)) where
   here_at : get_or (row_of l h n) i 0 ≡ node
   here_at = row_at l h n i more ∙ sym w.here
 

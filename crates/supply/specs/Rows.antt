@@ -8,6 +8,7 @@
 --   Below       each number of the row is below the size
 --   Unused      none of them is out
 --   Apart       no two of them are the same
+--   IsRow       all three of a row
 --   Chained     size, numbers left, head and links are those of a chain: its row has each number that is not out, and those alone
 use Rattle.std.specs.Prelude.{◌≡◌, ℕ, zero, suc, ◌+◌, ◌<◌, ◌≤◌, Bool, List, [], ◌∷◌, map, length, take, Result, MatchResult, ◌≢◌, nat_eq, slice_index}
 use Rattle.supply.specs.declared.faults.Fault.{Fault}
@@ -40,6 +41,9 @@ Unused links row = (i : ℕ) → i < length row → slice_index links (slice_ind
 
 abbrev pub Apart : List ℕ → Type 0
 Apart row = (i j : ℕ) → i < j → j < length row → slice_index row i ≢ slice_index row j
+
+abbrev pub IsRow : ℕ → List ℕ → List ℕ → Type 0
+IsRow size links row = Below size row × Unused links row × Apart row
 
 pub record Chained (size left head : ℕ) (links : List ℕ) : Type 0 where
   pub fits : size ≤ 4096

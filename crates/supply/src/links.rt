@@ -3,7 +3,7 @@
 ghost use Rattle.std.specs.Prelude.{◌≡◌, ◌+◌, ◌<◌, ◌≤◌, Decides, MatchOption, length, count_by, nat_eq};
 ghost use Rattle.std.specs.List.{range_with_len};
 ghost use Rattle.supply.specs.Stocks.{Taken, GivenBack, fresh, kept_size, marked};
-ghost use Rattle.supply.specs.Rows.{Below, Unused, Apart, Rising, TookFirst, PutFirst, row_of, link_marks, link_stock, Chained};
+ghost use Rattle.supply.specs.Rows.{Below, Unused, Apart, Rising, TookFirst, PutFirst, row_of, link_marks, link_stock, IsRow, Chained};
 ghost use Rattle.supply.specs.StockLaws.{links_sound};
 
 use crate::{Fault, MOST, Supply, kept_size};
@@ -41,7 +41,7 @@ impl ChainParts {
     /// Whether the row keeps below the size, and has no number that is out and none twice.
     fn is_row(&self) -> bool
         requires { self.now.size ≤ 4096 }
-        ensures { let p = self.now in Decides result (Below p.size (row_of p.links p.head p.left) × Unused p.links (row_of p.links p.head p.left) × Apart (row_of p.links p.head p.left)) }
+        ensures { let p = self.now in Decides result (IsRow p.size p.links (row_of p.links p.head p.left)) }
     {
         let links = &self.links[..self.size as usize];
         let mut seen = [false; MOST as usize];
