@@ -1,7 +1,7 @@
 /* A bank of up to sixteen ordered books of 32-bit keys and values, whose nodes share three tables that the caller owns and passes to every call.
  *
- * The library is crates/bank_c, and is built by `rt lib` there: crates/bank_c/out/libbank_c.a. It needs memcpy and memset of the C library
- * and nothing else: it allocates nothing, opens nothing and keeps nothing between calls.
+ * The library is crates/bank_c, and is built by `rt lib` there: crates/bank_c/out/libbank_c.a. It is for Linux on x86-64 (level v2). It needs
+ * memcpy and memset of the C library and nothing else: it allocates nothing, opens nothing and keeps nothing between calls.
  *
  * Each function ends, and writes nothing but what it is lent to write, whatever the fields of the bank, the tables and the arguments hold: this is
  * proved, and no function asks anything of them. What a caller owes is what the types say, and nothing checks it:
@@ -13,8 +13,8 @@
  *  - There are some 64 KiB of stack left.
  *
  * A bank is laid out first, with tables of as many heads as it has nodes and eleven keys and eleven values a node, and then passed with these
- * tables, which nobody but the library writes. Then no call is refused with number 1, 2, 5 or 7. A caller that writes to a bank or its tables gets
- * some answer, and calls that end.
+ * tables, which nobody but the library writes. Then no call but a second laying out is refused with number 1, 2, 5 or 7. A caller that writes to a
+ * bank or its tables gets some answer, and calls that end.
  *
  * Every call first goes through the whole supply, to see that the fields are those of a bank; its time grows with the number of nodes. */
 #ifndef BANK_H
