@@ -80,6 +80,24 @@ impl<S: Supply> Bank<S> {
         }
     }
 
+    /// The bank of these parts.
+    pub fn from_parts(size: usize, register: Register, supply: S) -> Bank<S>
+        ensures { (result.size ≡ size) × (result.register ≡ register) × (result.supply ≡ supply) }
+    {
+        Bank {
+            size,
+            register,
+            supply,
+        }
+    }
+
+    /// The parts of the bank: its size, its register and its supply.
+    pub fn into_parts(self) -> (usize, Register, S)
+        ensures { (result.0 ≡ self.size) × (result.1 ≡ self.register) × (result.2 ≡ self.supply) }
+    {
+        (self.size, self.register, self.supply)
+    }
+
     /// The supply, to be asked.
     pub fn supply(&self) -> &S
         ensures { result.now ≡ self.now.supply }

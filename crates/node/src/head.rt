@@ -1,6 +1,7 @@
 //! What a table keeps of a node beside its keys and values.
 
 /// A node at a fixed place of the tables: its parent, its place among the parent's edges, how many entries it has, and its edges.
+#[repr(C)]
 #[derive(Clone, Copy, PartialEq, Eq, Debug)]
 pub struct Head {
     pub parent: u16,

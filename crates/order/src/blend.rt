@@ -8,6 +8,7 @@ use crate::keys::KeyOrder;
 use std::cmp::Ordering;
 use std::fmt;
 
+#[repr(C)]
 #[derive(Clone, Copy, PartialEq, Eq, PartialOrd, Ord, Debug)]
 pub struct BlendNumber {
     pub number: u32,

@@ -1,13 +1,14 @@
 -- What the functions of `Chain` rest on. Assumes nothing.
-use Rattle.std.proofs.Common.{◌≡◌, ℕ, zero, suc, ◌+◌, ◌-◌, ◌<◌, ◌≤◌, true, false, eqb, List, ◌∷◌, map, length, get_or, take, set, replicate, sym, refl, ap, ◌∙◌, subst, add-one, arith}
+use Rattle.std.proofs.Common.{◌≡◌, ℕ, zero, suc, ◌+◌, ◌-◌, ◌<◌, ◌≤◌, true, false, cond, eqb, List, [], ◌∷◌, map, length, get_or, take, set, replicate, sym, refl, ap, ◌∙◌, subst, add-one, arith}
 use lib.Seq.{take-set-lt}
-use Rattle.std.specs.List.{range_with_len}
+use Rattle.std.specs.List.{range_with_len, count_by}
+use Rattle.std.proofs.lemmas.List.Sums.{sum_by-cons}
 use Rattle.std.proofs.lemmas.List.FromFn.{length-range_with_len, get_or-range_with_len}
 use Rattle.std.proofs.lemmas.List.{get_or-set_same, get_or-set_other, get_or-take, get_or-map, length-map, length-take-le, map-set}
 use Rattle.std.proofs.lemmas.Bool.{eqb-true, ne_eqb}
 use Rattle.supply.specs.declared.links.Chain.{Chain}
 use Rattle.supply.specs.Stocks.{marked, counted, fresh, Given, Returned}
-use Rattle.supply.specs.Rows.{row_of, Below, Unused, Apart, Rising, link_marks, link_stock}
+use Rattle.supply.specs.Rows.{Chained, row_of, Below, Unused, Apart, Rising, link_marks, link_stock}
 use Rattle.supply.proofs.StockLaws.{counted_given, counted_returned, counted_fresh, out_within, marked_given, marked_returned, all_false, none_marked}
 
 -- ---- the marks
@@ -32,6 +33,17 @@ out_below n l k h o = omega (arith, out_within (link_marks n l) k o, length_mark
 out_link : (n : ℕ) (l : List ℕ) (k : ℕ) → n ≤ length l → get_or (link_marks n l) k false ≡ true → get_or l k 0 ≡ 65535
 out_link n l k h o = eqb-true (get_or l k 0) 65535 (sym (index_marks n l k h (out_below n l k h o)) ∙ o)
 
+-- the marks are counted by the links
+pub marked_links : (n : ℕ) (l : List ℕ) → marked (link_marks n l) ≡ count_by (λ x. eqb x 65535) (take n l)
+unfolding link_marks
+marked_links n l = go (take n l)
+  where
+    go : (xs : List ℕ) → marked (map (λ x. eqb x 65535) xs) ≡ count_by (λ x. eqb x 65535) xs
+    go [] = refl
+    go (x ∷ xs) =
+        sum_by-cons (λ b. cond b 1 0) (eqb x 65535) (map (λ x. eqb x 65535) xs) ∙ ap (λ m. cond (eqb x 65535) 1 0 + m) (go xs)
+        ∙ sym (sum_by-cons (λ x. cond (eqb x 65535) 1 0) x xs)
+
 -- ---- the row
 
 -- the number k is not in the row
@@ -55,14 +67,6 @@ row_rising l rising h (suc n) q =
     ap (λ r. h ∷ r) (ap (λ x. row_of l x n) (rising h (omega arith)) ∙ row_rising l rising (h + 1) n (omega arith))
 
 -- ---- what holds of every chain
-
-pub record Chained (size left head : ℕ) (links : List ℕ) : Type 0 where
-  pub fits : size ≤ 4096
-  pub counts : left + marked (link_marks size links) ≡ size
-  pub inner : head < 65535
-  pub below : Below size (row_of links head left)
-  pub unused : Unused links (row_of links head left)
-  pub apart : Apart (row_of links head left)
 
 pub chained_of : (s : Chain) → Chained s.size s.left s.head s.links
 chained_of s = record { fits = s.fits; counts = s.counts; inner = s.inner; below = s.below; unused = s.unused; apart = s.apart }

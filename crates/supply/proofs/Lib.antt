@@ -2,3 +2,4 @@ pub mod StockLaws
 pub mod Digits
 pub mod Bitmaps
 pub mod Chains
+pub mod Walked

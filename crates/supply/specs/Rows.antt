@@ -8,9 +8,11 @@
 --   Below       each number of the row is below the size
 --   Unused      none of them is out
 --   Apart       no two of them are the same
-use Rattle.std.specs.Prelude.{◌≡◌, ℕ, zero, suc, ◌+◌, ◌<◌, Bool, List, [], ◌∷◌, map, length, take, Result, MatchResult, ◌≢◌, nat_eq, slice_index}
+--   IsRow       all three of a row
+--   Chained     size, numbers left, head and links are those of a chain: its row has each number that is not out, and those alone
+use Rattle.std.specs.Prelude.{◌≡◌, ℕ, zero, suc, ◌+◌, ◌<◌, ◌≤◌, Bool, List, [], ◌∷◌, map, length, take, Result, MatchResult, ◌≢◌, nat_eq, slice_index}
 use Rattle.supply.specs.declared.faults.Fault.{Fault}
-use Rattle.supply.specs.Stocks.{Stock, counted}
+use Rattle.supply.specs.Stocks.{Stock, counted, marked}
 
 abbrev pub row_of : List ℕ → ℕ → ℕ → List ℕ
 row_of links head zero = []
@@ -39,3 +41,14 @@ Unused links row = (i : ℕ) → i < length row → slice_index links (slice_ind
 
 abbrev pub Apart : List ℕ → Type 0
 Apart row = (i j : ℕ) → i < j → j < length row → slice_index row i ≢ slice_index row j
+
+abbrev pub IsRow : ℕ → List ℕ → List ℕ → Type 0
+IsRow size links row = Below size row × Unused links row × Apart row
+
+pub record Chained (size left head : ℕ) (links : List ℕ) : Type 0 where
+  pub fits : size ≤ 4096
+  pub counts : left + marked (link_marks size links) ≡ size
+  pub inner : head < 65535
+  pub below : Below size (row_of links head left)
+  pub unused : Unused links (row_of links head left)
+  pub apart : Apart (row_of links head left)

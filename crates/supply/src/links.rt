@@ -1,9 +1,9 @@
 //! A supply with its unused numbers in a linked row.
 
-ghost use Rattle.std.specs.Prelude.{◌≡◌, ◌+◌, ◌<◌, ◌≤◌};
+ghost use Rattle.std.specs.Prelude.{◌≡◌, ◌+◌, ◌<◌, ◌≤◌, Decides, MatchOption, length, count_by, nat_eq};
 ghost use Rattle.std.specs.List.{range_with_len};
 ghost use Rattle.supply.specs.Stocks.{Taken, GivenBack, fresh, kept_size, marked};
-ghost use Rattle.supply.specs.Rows.{Below, Unused, Apart, Rising, TookFirst, PutFirst, row_of, link_marks, link_stock};
+ghost use Rattle.supply.specs.Rows.{Below, Unused, Apart, Rising, TookFirst, PutFirst, row_of, link_marks, link_stock, IsRow, Chained};
 ghost use Rattle.supply.specs.StockLaws.{links_sound};
 
 use crate::{Fault, MOST, Supply, kept_size};
@@ -27,6 +27,54 @@ pub struct Chain {
     ghost apart: { Apart (row_of links head left) },
 }
 
+/// The fields of a chain, which may also hold anything else.
+#[repr(C)]
+#[derive(Clone, Copy, PartialEq, Eq, Debug)]
+pub struct ChainParts {
+    pub size: u16,
+    pub left: u16,
+    pub head: u16,
+    pub links: [u16; MOST as usize],
+}
+
+impl ChainParts {
+    /// Whether the row keeps below the size, and has no number that is out and none twice.
+    fn is_row(&self) -> bool
+        requires { self.now.size ≤ 4096 }
+        ensures { let p = self.now in Decides result (IsRow p.size p.links (row_of p.links p.head p.left)) }
+    {
+        let links = &self.links[..self.size as usize];
+        let mut seen = [false; MOST as usize];
+        let mut node = self.head as usize;
+        for _ in 0..self.left {
+            if node >= links.len() || links[node] == OUT || seen[node] {
+                return false;
+            }
+            seen[node] = true;
+            node = links[node] as usize;
+        }
+        true
+    }
+
+    /// Whether these are the fields of a chain.
+    fn is_chain(&self) -> bool
+        ensures { let p = self.now in Decides result (Chained p.size p.left p.head p.links) }
+    {
+        if self.size > MOST || self.head == OUT {
+            return false;
+        }
+        let out = outs(&self.links[..self.size as usize]);
+        self.left as usize + out == self.size as usize && self.is_row()
+    }
+}
+
+/// How many of the links are those of a number that is out.
+fn outs(links: &[u16]) -> usize
+    ensures { result ≡ count_by (λ x. nat_eq x 65535) links.now }
+{
+    links.iter().filter(|link| **link == OUT).count()
+}
+
 /// Each number with a link to the next.
 fn rising() -> [u16; MOST as usize]
     ensures { Rising result 4096 }
@@ -46,6 +94,41 @@ impl Chain {
             size,
             left: size,
             head: 0,
+            links,
+        }
+    }
+
+    /// The chain with these fields, or none where they are not those of a chain.
+    pub fn from_parts(parts: &ChainParts) -> Option<Chain>
+        ensures { let p = parts.now in MatchOption result (Chained p.size p.left p.head p.links → ⊥) (λ c. (c.size ≡ p.size) × (c.left ≡ p.left) × (c.head ≡ p.head) × (c.links ≡ p.links)) }
+    {
+        if !parts.is_chain() {
+            return None;
+        }
+        let ChainParts {
+            size,
+            left,
+            head,
+            links,
+        } = *parts;
+        Some(Chain {
+            size,
+            left,
+            head,
+            links,
+        })
+    }
+
+    /// The fields of the chain.
+    pub fn into_parts(self) -> ChainParts
+        ensures same { (result.size ≡ self.size) × (result.left ≡ self.left) × (result.head ≡ self.head) × (result.links ≡ self.links) }
+        ensures chained { Chained result.size result.left result.head result.links }
+    {
+        let links = self.links;
+        ChainParts {
+            size: self.size,
+            left: self.left,
+            head: self.head,
             links,
         }
     }
