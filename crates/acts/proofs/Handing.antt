@@ -17,7 +17,7 @@ use Rattle.map.specs.Lookup.{InOrder}
 use Rattle.walk.specs.declared.walks.Walk.{Walk}
 use Rattle.walk.specs.Steps.{step}
 use Rattle.walk.specs.Walks as W
-use Rattle.walk.specs.Walks.{Walks, no_walk, Hands, Stepped, Opens, Closes, Releases}
+use Rattle.walk.specs.Walks.{Walks, no_walk, Nodeless, Hands, Stepped, Opens, Closes, Releases}
 use Rattle.walk.specs.Window.{bounds}
 use Rattle.walk.proofs.Stepping.{step_ends}
 use Rattle.walk.proofs.Windows.{shown_fanned}
@@ -45,6 +45,9 @@ module _ {K V : Type 0} (compares : K → K → Ordering) (T : Tables K V) where
 
   -- ---- opening
 
+  nodeless : (w : Walk) → w ≡ no_walk → Nodeless w
+  nodeless w e = record { front_null = ap (λ u. u.front.node) e; back_null = ap (λ u. u.back.node) e; none_left = ap (λ u. u.left) e }
+
   module _ (S : Stock) (p : Place) where
     abbrev OpenedAs : Place → Book (K × V) → Type 0
     OpenedAs p' b = ((open_in b).0 ≡ Ok Opened) × Becomes compares T T S S b p' (open_in b).1
@@ -53,7 +56,7 @@ module _ {K V : Type 0} (compares : K → K → Ordering) (T : Tables K V) where
     unfolding OpensIn
     opens_nowhere n w o b r m =
         subst (OpenedAs (P.Walk w)) (sym (bare_book compares T p b n m r.at).1)
-        (refl, record { at = ok_same w no_walk (o.none refl); beside = beside_none T S (λ _. 0); balanced = balanced_none S (λ _. 0) })
+        (refl, record { at = nodeless w (ok_same w no_walk (o.none refl)); beside = beside_none T S (λ _. 0); balanced = balanced_none S (λ _. 0) })
 
     module _ (root : NodeRef) (count : ℕ) (e : p ≡ P.Tree root count) where
       pub opens_tree : (w : Walk) → Opens T (Some root) count (Ok w) → OpensIn compares T S p (Ok (P.Walk w))
@@ -86,7 +89,7 @@ module _ {K V : Type 0} (compares : K → K → Ordering) (T : Tables K V) where
         subst (λ o. Acts compares T T S S (walked h t) Handed (handed_in h t o) (Ok (P.Walk w, None))) (sym none)
         (refl, record { at = v; beside = beside_none T S (λ x. occurs x h t); balanced = balanced_none S (λ x. occurs x h t) })
 
-    none_idle : (S : Stock) (w : Walk) → w ≡ no_walk → Steps S S idle w None
+    none_idle : (S : Stock) (w : Walk) → Nodeless w → Steps S S idle w None
     none_idle S w e = (refl, record { at = e; beside = beside_none T S (λ _. 0); balanced = balanced_none S (λ _. 0) })
 
     -- one is handed out
@@ -113,7 +116,7 @@ module _ {K V : Type 0} (compares : K → K → Ordering) (T : Tables K V) where
             | inl l ↦ one_handed S S' w w' x h t r.at (d.hands h t (walks_of S w h t r) l)
             | inr l ↦ let z : w.left ≡ 0 = omega arith in same_handed x d z (walked h t) (none_handed S w h t r z)
           ]
-      handed_at x d idle r = same_handed x d (ap (λ u. u.left) r.at) idle (none_idle S w r.at)
+      handed_at x d idle r = same_handed x d r.at.none_left idle (none_idle S w r.at)
 
       pub steps_done : (x : Option (K × V)) → Stepped s T S S' w w' (Ok x) → StepsIn compares T S S' w s (Ok (P.Walk w', x))
       unfolding StepsIn
@@ -128,7 +131,7 @@ module _ {K V : Type 0} (compares : K → K → Ordering) (T : Tables K V) where
             | inl l ↦ let a = d.hands h t (walks_of S w h t r) l in err_not_ok f (Some a.entry) a.answer
             | inr l ↦ let z : w.left ≡ 0 = omega arith in err_not_ok f None (d.none_left z).0
           ]
-      not_lost f d idle r = err_not_ok f None (d.none_left (ap (λ u. u.left) r.at)).0
+      not_lost f d idle r = err_not_ok f None (d.none_left r.at.none_left).0
 
       pub steps_lost : (f : Fault) → Stepped s T S S' w w' (Err f) → (r : Result (Place × Option (K × V)) Fault) → StepsIn compares T S S' w s r
       unfolding StepsIn

@@ -10,7 +10,7 @@ use Rattle.node.specs.Store.{Tables, Sized, head_in}
 use Rattle.node.proofs.Frames.{holds_node, held_low}
 use Rattle.walk.specs.declared.walks.Walk.{Walk}
 use Rattle.walk.specs.Climbs.{Tops}
-use Rattle.walk.specs.Walks.{no_walk}
+use Rattle.walk.specs.Walks.{Nodeless}
 use Rattle.walk.specs.Window.{Bounds, bounds, Shown}
 use Rattle.walk.proofs.Framing.{shown_whole}
 use Rattle.walk.proofs.Leaving.{tops_inside}
@@ -96,7 +96,7 @@ module _ {K V : Type 0} (compares : K → K → Ordering) (T : Tables K V) (sz :
         ),
       )
 
-  pub idle_book : (w : Walk) (m : Met) → w ≡ no_walk → PlaceSound compares T (Kind.Walk w) m m
+  pub idle_book : (w : Walk) (m : Met) → Nodeless w → PlaceSound compares T (Kind.Walk w) m m
   idle_book w m e = (sz, (idle, e, λ x. omega arith))
 
   walk_tops : (w : Walk) (h : ℕ) (t : Tree (K × V)) → WalkAt compares T w h t → Tops T.heads h w.front.node
@@ -105,13 +105,12 @@ module _ {K V : Type 0} (compares : K → K → Ordering) (T : Tables K V) (sz :
       subst (λ n. Tops T.heads n w.front.node) z
       (tops T sz (root_least h) (walk_bounds w) h t First w.front v.shown refl 0 (tops_none T.heads (number t) (shown_pane T (root_least h) (walk_bounds w) h t v.shown).node_is.inside v.rooted))
 
-  walk_not_idle : (w : Walk) (h : ℕ) (t : Tree (K × V)) → WalkAt compares T w h t → w ≡ no_walk → ⊥
+  walk_not_idle : (w : Walk) (h : ℕ) (t : Tree (K × V)) → WalkAt compares T w h t → Nodeless w → ⊥
   walk_not_idle w h t v e =
-      let z : w.front.node ≡ 65535 = ap (λ w. w.front.node) e in
-      omega (arith, tops_inside T.heads h w.front.node (walk_tops w h t v), sz.most)
+      omega (arith, tops_inside T.heads h w.front.node (walk_tops w h t v), sz.most, e.front_null)
 
   -- a walk without nodes has no other book than that
-  pub idle_whole : (w : Walk) (m : Met) (b : Book (K × V)) → w ≡ no_walk → BookAt compares T (Kind.Walk w) b → Marked m m (λ x. uses x b)
+  pub idle_whole : (w : Walk) (m : Met) (b : Book (K × V)) → Nodeless w → BookAt compares T (Kind.Walk w) b → Marked m m (λ x. uses x b)
   idle_whole w m bare e v = absurd v
   idle_whole w m (planted h t) e v = absurd v
   idle_whole w m (walked h t) e v = absurd (walk_not_idle w h t v e)
@@ -130,7 +129,7 @@ module _ {K V : Type 0} (compares : K → K → Ordering) (T : Tables K V) (sz :
     pub leads : o ≡ Some root
     pub whole : TreeWhole compares T (walk_bounds w) root w.left m m' r → (r ≡ true) × Marked m m' v
 
-  pub walked_by : (w : Walk) (o : Option NodeRef) (m m' : Met) (r : Bool) (b : Book (K × V)) → (w ≡ no_walk → ⊥) → Climbed T.heads w o → BookAt compares T (Kind.Walk w) b → Unmarked m (λ x. uses x b) → Walked w o m m' r (λ x. uses x b)
+  pub walked_by : (w : Walk) (o : Option NodeRef) (m m' : Met) (r : Bool) (b : Book (K × V)) → (Nodeless w → ⊥) → Climbed T.heads w o → BookAt compares T (Kind.Walk w) b → Unmarked m (λ x. uses x b) → Walked w o m m' r (λ x. uses x b)
   walked_by w o m m' r bare n f v u = absurd v
   walked_by w o m m' r (planted h t) n f v u = absurd v
   walked_by w o m m' r (walked h t) n f v u = record {

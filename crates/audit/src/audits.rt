@@ -5,7 +5,7 @@ ghost use Rattle.node.specs.Balance.{mark};
 ghost use Rattle.node.specs.Shape.{root_least};
 ghost use Rattle.node.specs.Store.{Sized, head_in};
 ghost use Rattle.walk.specs.Climbs.{Tops};
-ghost use Rattle.walk.specs.Walks.{no_walk};
+ghost use Rattle.walk.specs.Walks.{Nodeless};
 ghost use Rattle.walk.specs.Window.{bounds};
 ghost use Rattle.books.specs.States.{GoodForm};
 ghost use Rattle.audit.specs.Marks.{weight};
@@ -55,10 +55,9 @@ fn top(heads: &[Head], node: u16, level: u16) -> Option<NodeRef>
 
 /// Whether nothing is left of a walk, not even a node.
 fn is_idle(walk: Walk) -> bool
-    ensures { Decides result (walk ≡ no_walk) }
+    ensures { Decides result (Nodeless walk) }
 {
-    let nowhere = Handle { node: NULL, idx: 0 };
-    walk.left == 0 && walk.front == nowhere && walk.back == nowhere
+    walk.left == 0 && walk.front.node == NULL && walk.back.node == NULL
 }
 
 /// The least number of entries in a root.

@@ -16,7 +16,7 @@ use Rattle.node.specs.Shape.{Tree, number, flat, weigh, Formed, root_least}
 use Rattle.node.specs.Store.{Tables, Holds}
 use Rattle.map.specs.Lookup.{InOrder}
 use Rattle.walk.specs.declared.walks.Walk.{Walk}
-use Rattle.walk.specs.Walks.{no_walk}
+use Rattle.walk.specs.Walks.{Nodeless}
 use Rattle.walk.specs.Window.{bounds, Shown}
 use Rattle.books.specs.declared.places.Place.{Place}
 use Rattle.books.specs.declared.places.Place.TheVariants as Kind
@@ -64,5 +64,5 @@ abbrev pub BookAt : {K V : Type 0} → (K → K → Ordering) → Tables K V →
 BookAt compares T Kind.Bare bare = Unit {0}
 BookAt compares T (Kind.Tree root count) (planted h t) = TreeAt compares T root count h t
 BookAt compares T (Kind.Walk w) (walked h t) = WalkAt compares T w h t
-BookAt compares T (Kind.Walk w) idle = w ≡ no_walk
+BookAt compares T (Kind.Walk w) idle = Nodeless w
 BookAt compares T p b = ⊥

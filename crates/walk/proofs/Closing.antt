@@ -65,8 +65,8 @@ module _ {K V : Type 0} (T : Tables K V) where
   closes_done {U = U} y S S₁ S₂ w w₁ d e c l = record {
     fault = tt;
     none = λ z.
-        let a = e.none_left (ap (λ u. u.left) z) in
-        (a.0, (c.none (ap (λ u. u.front.node) (a.1 ∙ z))).1 ∙ a.2);
+        let a = e.none_left z.none_left in
+        (a.0, (c.none (ap (λ u. u.front.node) a.1 ∙ z.front_null)).1 ∙ a.2);
     all = e.all;
     few = omega (arith, e.all, ap (λ (T : Tables K V). length T.heads) y);
     held = λ h t v.
@@ -78,7 +78,7 @@ module _ {K V : Type 0} (T : Tables K V) where
   pub closes_broken : {U : Tables K V} → U ≡ T → (S S₁ S₂ : Stock) (w w₁ : Walk) (d : ℕ) (f : Fault) (r : Result ℕ Fault) → is_err r ≡ true → Breached r → Emptied T S S₁ w w₁ (Ok d) → Clears S₁ S₂ U.heads w₁.front.node (Err f) → Closes T S S₂ w r
   closes_broken {U = U} y S S₁ S₂ w w₁ d f r q g e c = record {
     fault = g;
-    none = λ z. let a = e.none_left (ap (λ u. u.left) z) in absurd (err_ok f tt (c.none (ap (λ u. u.front.node) (a.1 ∙ z))).0);
+    none = λ z. let a = e.none_left z.none_left in absurd (err_ok f tt (c.none (ap (λ u. u.front.node) a.1 ∙ z.front_null)).0);
     all = IfOk-from_err r _ q;
     few = IfOk-from_err r _ q;
     held = λ h t v. let a = e.held h t v in absurd (err_ok f tt (cleared S₁ S₂ h a.1.0 w₁ (Err f) a.1.1 a.1.2 (subst (λ (T : Tables K V). Clears S₁ S₂ T.heads w₁.front.node (Err f)) y c)).0);
@@ -125,7 +125,7 @@ module _ {K V : Type 0} (T : Tables K V) where
   pub closes_many : (S : Stock) (w : Walk) (a : Bool) → a ≡ false → (w.left ≡ 0 → a ≡ true) → (length T.heads ≤ 4096 → w.left ≤ 11 * length T.heads → a ≡ true) → Closes T S S w (Err Breach)
   closes_many S w a q n k = record {
     fault = refl;
-    none = λ z. absurd (both_ways a q (n (ap (λ u. u.left) z)));
+    none = λ z. absurd (both_ways a q (n z.none_left));
     all = tt;
     few = tt;
     held = λ h t v. let l = walks_few S h t w v in absurd (both_ways a q (k l.0 l.1));

@@ -1,7 +1,8 @@
 -- Walks over the entries of a tree.
 --   end_of s w         the edge at one end of a walk
 --   moved s e w        the walk with another edge there, and one entry less left
---   no_walk            the walk of a tree without nodes
+--   no_walk            a walk over nothing, as it is opened where there is no root
+--   Nodeless w         no node is left of a walk: both its leaves are null, and no entry is left; the indices of its edges are free
 --   Walks T S h t w    the tables hold the tree that t shows between the edges of w, its nodes are out, and w knows how many entries it has
 --   Hands              a step hands out the entry at its end; the nodes that are left behind go back
 --   Stepped            what a step answers
@@ -40,6 +41,11 @@ moved Last e w = record { front = w.front; back = e; left = w.left - 1 }
 
 abbrev pub no_walk : Walk
 no_walk = record { front = handle 65535 0; back = handle 65535 0; left = 0 }
+
+pub record Nodeless (w : Walk) : Type 0 where
+  pub front_null : w.front.node ≡ 65535
+  pub back_null : w.back.node ≡ 65535
+  pub none_left : w.left ≡ 0
 
 pub record Walks {K V : Type 0} (T : Tables K V) (S : Stock) (h : ℕ) (t : Tree (K × V)) (w : Walk) : Type 0 where
   pub sized : Sized T
@@ -98,7 +104,7 @@ pub record Emptied {K V : Type 0} (T : Tables K V) (S S' : Stock) (w w' : Walk) 
 
 pub record Closes {K V : Type 0} (T : Tables K V) (S S' : Stock) (w : Walk) (r : Result ℕ Fault) : Type 0 where
   pub fault : Breached r
-  pub none : w ≡ no_walk → (r ≡ Ok 0) × (S' ≡ S)
+  pub none : Nodeless w → (r ≡ Ok 0) × (S' ≡ S)
   pub all : IfOk r (λ n. n ≡ w.left)
   pub few : IfOk r (λ n. n ≤ 11 * length T.heads)
   pub held : (h : ℕ) (t : Tree (K × V)) → Walks T S h t w → (r ≡ Ok (length (flat h t))) × Balanced S S' (λ x. occurs x h t) (λ _. 0)

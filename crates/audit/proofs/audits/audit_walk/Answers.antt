@@ -4,7 +4,7 @@ use Rattle.std.proofs.lemmas.Option.{none-some}
 use Rattle.node.specs.declared.nodes.NodeRef.{NodeRef}
 use Rattle.node.specs.Store.{head_in}
 use Rattle.walk.specs.Climbs.{Tops}
-use Rattle.walk.specs.Walks.{no_walk}
+use Rattle.walk.specs.Walks.{Nodeless}
 use Rattle.walk.proofs.Stepping.{some_is}
 use Rattle.audit.specs.Audits.{Leads, TreeWhole}
 use Rattle.audit.proofs.Booked.{walk_bounds, walked_by, walk_book, idle_whole}
@@ -24,7 +24,7 @@ returns-in-Some-clause-whole g c = λ b sz v u.
     let C = g.K.KeyOrder.compares in
     let T = c.args.tables.now in
     let e = c.args.walk.front.node in
-    let off = λ (z : c.args.walk ≡ no_walk). both_ways c.is_idle.result c.if-is_idle.false (c.is_idle.ensures.1 z) in
+    let off = λ (z : Nodeless c.args.walk). both_ways c.is_idle.result c.if-is_idle.false (c.is_idle.ensures.1 z) in
     let f = subst (λ T. (n : ℕ) → 0 + n ≤ 5 → Tops T.heads n e → Leads T.heads n e (0 + n) c.top.result) c.tables.view_is c.top.ensures.whole in
     let w = walked_by C T sz c.args.walk c.top.result c.args.met.now c.shows.new.met c.shows.result b off f v u in
     w.whole
@@ -36,7 +36,7 @@ returns-in-None-clause-whole g c = λ b sz v u.
     let C = g.K.KeyOrder.compares in
     let T = c.args.tables.now in
     let e = c.args.walk.front.node in
-    let off = λ (z : c.args.walk ≡ no_walk). both_ways c.is_idle.result c.if-is_idle.false (c.is_idle.ensures.1 z) in
+    let off = λ (z : Nodeless c.args.walk). both_ways c.is_idle.result c.if-is_idle.false (c.is_idle.ensures.1 z) in
     let f = subst (λ T. (n : ℕ) → 0 + n ≤ 5 → Tops T.heads n e → Leads T.heads n e (0 + n) c.top.result) c.tables.view_is c.top.ensures.whole in
     let w = walked_by C T sz c.args.walk c.top.result c.args.met.now c.args.met.now false b off f v u in
     absurd (none-some w.root (sym c.in-None.is ∙ w.leads))
