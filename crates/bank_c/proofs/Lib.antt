@@ -1,1 +1,1 @@
-pub mod Serving
+pub mod Mapped

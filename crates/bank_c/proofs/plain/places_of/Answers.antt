@@ -1,7 +1,7 @@
 use Rattle.std.proofs.Common.{◌≡◌, get_or, sym, arith, rules}
 use Rattle.books.specs.declared.places.Place.TheVariants as P
 use Rattle.bank_c.specs.Plain.{place_of}
-use Rattle.bank_c.proofs.Serving.{map_is}
+use Rattle.bank_c.proofs.Mapped.{map_is}
 use Rattle.bank_c.proofs.plain.places_of.Goals as goal
 
 pub returns-clause-same : goal.returns-clause-same

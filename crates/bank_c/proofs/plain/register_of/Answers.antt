@@ -1,6 +1,6 @@
 use Rattle.std.proofs.Common.{arith, rules}
 use Rattle.bank_c.specs.Plain.{place_of}
-use Rattle.bank_c.proofs.Serving.{map_is}
+use Rattle.bank_c.proofs.Mapped.{map_is}
 use Rattle.bank_c.proofs.plain.register_of.Goals as goal
 
 pub returns : goal.returns

@@ -1,4 +1,4 @@
--- What a call of a bank does, told by plain fields. Assumes nothing.
+-- A list that a function was mapped over. Assumes nothing.
 use Rattle.std.proofs.Common.{◌≡◌, ℕ, suc, ◌<◌, List, [], ◌∷◌, length, map, get_or, refl, ap₂, arith}
 
 -- a list of what a function gives, item by item
