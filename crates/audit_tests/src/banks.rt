@@ -2,7 +2,8 @@
 
 use audit::audits::audit;
 use books::places::{Place, Register};
-use node::head::Head;
+use node::ends::Handle;
+use node::head::{Head, NULL};
 use node::level::{new_leaf, push_level};
 use node::nodes::{Internal, Leaf, NodeRef};
 use node::tables::Tables;
@@ -166,5 +167,31 @@ fn a_walk_is_in_form_at_each_step(rt: HostRuntime) -> Result<(), Fail> {
         ..walk
     };
     assert!(rt; !audit(&tables, 3, &with(Place::Walk(other)), &supply));
+    Ok(())
+}
+
+#[test]
+fn a_walk_without_nodes_is(rt: HostRuntime) -> Result<(), Fail> {
+    let tables = Tables {
+        heads: &[FREE; 3],
+        keys: &[BlendNumber::from(0); 33],
+        values: &[0u32; 33],
+    };
+    let supply = Bitmap::new(3);
+    let front = Handle { node: NULL, idx: 0 };
+    let back = Handle { node: NULL, idx: 7 };
+    let emptied = Walk {
+        front,
+        back,
+        left: 0,
+    };
+    let more = Walk { left: 1, ..emptied };
+    let half = Walk {
+        back: Handle { node: 0, idx: 0 },
+        ..emptied
+    };
+    assert!(rt; audit(&tables, 3, &with(Place::Walk(emptied)), &supply));
+    assert!(rt; !audit(&tables, 3, &with(Place::Walk(more)), &supply));
+    assert!(rt; !audit(&tables, 3, &with(Place::Walk(half)), &supply));
     Ok(())
 }

@@ -125,7 +125,7 @@ module _ {K V : Type 0} {compares : K → K → Ordering} (ordered : Ordered com
   count_same T (P.Walk w) (walked h t) a = a.count_is
   count_same T P.Bare idle a = absurd a
   count_same T (P.Tree root count) idle a = absurd a
-  count_same T (P.Walk w) idle a = ap (λ u. u.left) a
+  count_same T (P.Walk w) idle a = a.none_left
 
   pub counted_done : (p : ℕ) (here : Place) → Asked (λ _. true) p here → (n : ℕ) → n ≡ count_at here → Performs compares (Count p) s s (Ok (Counted n))
   counted_done p here w n q =
