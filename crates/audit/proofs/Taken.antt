@@ -42,7 +42,7 @@ module _ {K V : Type 0} (T : Tables K V) where
   pub took_more : (h m n i : ℕ) (b : Bounds) (t : Tree (K × V)) (ts : List (Tree (K × V))) (e : K × V) (es : List (K × V)) (s : Trail K) → keys_of T m i 1 ≡ first e ∷ []
       → Took (λ x. occurs x h t) (map first (flat h t)) s (after T h (only First b) (edge T.heads m i) s)
       → Took (λ x. total (occurs x h) ts) (map first (weave (map (flat h) ts) es)) (moved T m i 1 (after T h (only First b) (edge T.heads m i) s))
-          (stepped T (after T h) m n (i + 1) (only Last b) (moved T m i 1 (after T h (only First b) (edge T.heads m i) s)))
+      (stepped T (after T h) m n (i + 1) (only Last b) (moved T m i 1 (after T h (only First b) (edge T.heads m i) s)))
       → Took (λ x. total (occurs x h) (t ∷ ts)) (map first (flat h t ++ e ∷ weave (map (flat h) ts) es)) s (stepped T (after T h) m (suc n) i b s)
   took_more h m n i b t ts e es s q t1 t3 =
       let s1 : Trail K = after T h (only First b) (edge T.heads m i) s in
@@ -60,7 +60,7 @@ module _ {K V : Type 0} (T : Tables K V) where
 
   pub took_above : (b : Bounds) (h : ℕ) (t : Tree (K × V)) (s : Trail K) → Unmet s.met (number t)
       → Took (λ x. total (occurs x h) (kids t)) (map first (weave (map (flat h) (kids t)) (row t))) (marked (number t) s)
-          (stepped T (after T h) (number t) (count T (suc h) b (number t)) (begins T.heads (suc h) b) b (marked (number t) s))
+      (stepped T (after T h) (number t) (count T (suc h) b (number t)) (begins T.heads (suc h) b) b (marked (number t) s))
       → Took (λ x. occurs x (suc h) t) (map first (flat (suc h) t)) s (pass T b (suc h) (number t) s)
   took_above b h t s u w =
       let m : ℕ = number t in
