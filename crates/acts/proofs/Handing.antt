@@ -40,7 +40,7 @@ module _ {K V : Type 0} (compares : K → K → Ordering) (T : Tables K V) where
   walk_at S w h t v o = record { low = v.low; shown = v.shown; rooted = v.rooted; count_is = v.counted; in_order = o }
 
   -- a tree that is ready
-  tree_of : (S : Stock) (root : NodeRef) (count : ℕ) (b : Book (K × V)) (v : ReadyTree compares T S root count b) → W.Ready T S root count v.tree
+  tree_of : (S : Stock) (root : NodeRef) (count : ℕ) (b : Book (K × V)) (v : ReadyTree compares T S root count b) → W.Standing T S root count v.tree
   tree_of S root count b v = record { owns = v.owns; formed = v.here.formed; number_is = v.node_is; rooted = v.here.rooted; count_is = v.here.count_is }
 
   -- ---- opening

@@ -25,7 +25,8 @@ use Rattle.audit.specs.Runs.{Notes}
 use Rattle.audit.specs.Passes.{count, keys_of, Trail, Under, index_in, begins, ends, Fits, Led, marked, stepped, pass, Steps, Passable}
 use Rattle.audit.proofs.Notes.{notes_append}
 use Rattle.audit.proofs.Passing.{moved, Kid, after, Leaf, Above, passable_leaf, passable_above, pass_leaf, pass_above, More, steps_one, steps_more, stepped_one, stepped_more}
-use Rattle.audit.proofs.Taking.{Took, took_as, took_join, took_same, took_mark, took_keys}
+use Rattle.audit.proofs.Taken.{took_leaf, took_one, took_more, took_above}
+use Rattle.audit.proofs.Taking.{Took, took_keys}
 
 -- ---- entries from their keys and values
 
@@ -193,10 +194,7 @@ module _ {K V : Type 0} (compares : K → K → Ordering) (T : Tables K V) where
           here = λ u e q. sym (up_zero T.heads e) ∙ rows_edge T least b zero m w.fits r u e q ∙ ap (λ us. handle m (edge_at u (length us) (length r.row))) (sym p.1);
         });
         notes = subst (λ ks. Notes compares ks s.run) keys' w.notes;
-        took = took_same (λ x. occurs x zero (mk m r.row [])) (map first (flat zero (mk m r.row []))) (moved T m i n s1) (pass_leaf T b m s)
-            (took_as (λ x. same x m + 0) (λ x. occurs x zero (mk m r.row [])) ([] ++ keys_of T m i n) (map first (flat zero (mk m r.row []))) s (moved T m i n s1)
-            (λ x. omega (arith, occurs_parts x zero (mk m r.row []))) keys'
-            (took_join (λ x. same x m) (λ _. 0) [] (keys_of T m i n) s s1 (moved T m i n s1) (took_mark m s w.unmet) (took_keys (keys_of T m i n) s1)));
+        took = took_leaf T b (mk m r.row []) s w.unmet keys';
       }
 
   -- ---- the children from i on, with the entries es between them
@@ -229,8 +227,7 @@ module _ {K V : Type 0} (compares : K → K → Ordering) (T : Tables K V) where
     edges = edge_run m i (number f.t) (omega (arith, d.wide)) f.number_is;
     linked = link_one m i (number f.t) (subst (λ c. Link T m i c) (sym f.number_is) d.link);
     notes = f.notes;
-    took = took_same (λ x. total (occurs x h) (f.t ∷ [])) (map first (flat h f.t)) (after T h b (edge T.heads m i) s) (stepped_one T (after T h) m i b s)
-        (took_as (λ x. occurs x h f.t) (λ x. total (occurs x h) (f.t ∷ [])) (map first (flat h f.t)) (map first (flat h f.t)) s (after T h b (edge T.heads m i) s) (λ x. omega arith) refl f.took);
+    took = took_one T h m i b f.t s f.took;
   }
 
   find_more : (h m n i : ℕ) (b : Bounds) (e : K × V) (es : List (K × V)) (s : Trail K) → i ≤ (head_at T m).len → keys_of T m i 1 ≡ first e ∷ [] → More compares T (Kid compares T h) (after T h) m n i b s
@@ -242,16 +239,12 @@ module _ {K V : Type 0} (compares : K → K → Ordering) (T : Tables K V) where
       let c : ℕ = edge H m i in
       let s1 : Trail K = after T h (only First b) c s in
       let s2 : Trail K = moved T m i 1 s1 in
-      let s3 : Trail K = stepped T (after T h) m n (i + 1) (only Last b) s2 in
       let ks : List K = map first (flat h f.t) in
       let ls : List K = map first (weave (map (flat h) g.ts) es) in
       let one : List K = keys_of T m i 1 in
       let es-is : List (K × V) = weave (map (flat h) g.ts) es in
       let split : ks ++ (one ++ ls) ≡ map first (flat h f.t ++ e ∷ es-is) = ap (λ o. ks ++ (o ++ ls)) q ∙ sym (map-append first (flat h f.t) (e ∷ es-is)) in
-      let t1 : Took (λ x. occurs x h f.t) ks s s1 = f.took in
       let t2 : Took (λ _. 0) one s1 s2 = took_keys one s1 in
-      let t3 : Took (λ x. total (occurs x h) g.ts) ls s2 s3 = g.took in
-      let t23 : Took (λ x. 0 + total (occurs x h) g.ts) (one ++ ls) s1 s3 = took_join (λ _. 0) (λ x. total (occurs x h) g.ts) one ls s1 s2 s3 t2 t3 in
       record {
         ts = f.t ∷ g.ts;
         many = ap suc g.many;
@@ -260,10 +253,8 @@ module _ {K V : Type 0} (compares : K → K → Ordering) (T : Tables K V) where
         linked = linked_append T m i (number f.t ∷ []) (map number g.ts) (link_one m i (number f.t) (subst (λ c. Link T m i c) (sym f.number_is) w.led.link)) g.linked;
         notes = subst (λ ks. Notes compares ks s.run) split
             (notes_append compares ks (one ++ ls) s.run f.notes
-            (subst (λ r. Notes compares (one ++ ls) r) t1.run (notes_append compares one ls s1.run w.notes (subst (λ r. Notes compares ls r) t2.run g.notes))));
-        took = took_same (λ x. total (occurs x h) (f.t ∷ g.ts)) (map first (flat h f.t ++ e ∷ es-is)) s3 (stepped_more T (after T h) m n i b s)
-            (took_as (λ x. occurs x h f.t + (0 + total (occurs x h) g.ts)) (λ x. total (occurs x h) (f.t ∷ g.ts)) (ks ++ (one ++ ls)) (map first (flat h f.t ++ e ∷ es-is)) s s3
-            (λ x. omega arith) split (took_join (λ x. occurs x h f.t) (λ x. 0 + total (occurs x h) g.ts) ks (one ++ ls) s s1 s3 t1 t23));
+            (subst (λ r. Notes compares (one ++ ls) r) f.took.run (notes_append compares one ls s1.run w.notes (subst (λ r. Notes compares ls r) t2.run g.notes))));
+        took = took_more T h m n i b f.t g.ts e es s q f.took g.took;
       }
 
   module _ (h : ℕ) (sound : (c : Bounds) (k : ℕ) (s : Trail K) → Passable compares T 4 c h k s → Finds compares T 4 c h k s) where
@@ -310,7 +301,6 @@ module _ {K V : Type 0} (compares : K → K → Ordering) (T : Tables K V) where
       let s2 : Trail K = stepped T (after T h) m n i b s1 in
       let keys : List K = map first (weave (map (flat h) g.ts) r.row) in
       let flat-is : keys ≡ map first (flat (suc h) t) = ap (map first) (sym (flat_mk h m r.row g.ts)) in
-      let nil : Took (λ x. same x m) [] s s1 = took_mark m s w.unmet in
       record {
         t = t;
         number_is = refl;
@@ -324,9 +314,7 @@ module _ {K V : Type 0} (compares : K → K → Ordering) (T : Tables K V) where
             })
             (subst (λ ts. Among (λ c k. Shown T 4 c h k) b ts) (sym (kids_mk m r.row g.ts)) g.among);
         notes = subst (λ ks. Notes compares ks s.run) flat-is (subst (λ r. Notes compares keys r) refl g.notes);
-        took = took_same (λ x. occurs x (suc h) t) (map first (flat (suc h) t)) s2 (pass_above T b h m s)
-            (took_as (λ x. same x m + total (occurs x h) g.ts) (λ x. occurs x (suc h) t) ([] ++ keys) (map first (flat (suc h) t)) s s2 (λ x. sym (occurs_mk x h m r.row g.ts)) flat-is
-            (took_join (λ x. same x m) (λ x. total (occurs x h) g.ts) [] keys s s1 s2 nil g.took));
+        took = took_above T b h t s w.unmet (subst (λ ts. Took (λ x. total (occurs x h) ts) (map first (weave (map (flat h) ts) r.row)) s1 s2) (sym (kids_mk m r.row g.ts)) g.took);
       }
 
   first_led : (h m n i : ℕ) (b : Bounds) (s : Trail K) → Steps compares T (Kid compares T h) (after T h) m n i b s → Led T m i

@@ -7,5 +7,6 @@ pub mod Passing
 pub mod Planted
 pub mod Showing
 pub mod Placed
+pub mod Taken
 pub mod Taking
 pub mod Tops

@@ -27,7 +27,8 @@ use Rattle.audit.specs.Runs.{Notes}
 use Rattle.audit.specs.Marks.{Unmet}
 use Rattle.audit.specs.Passes.{keys_of, Trail, Climbable, Under, index_in, begins, ends, Fits, Led, marked, stepped, pass, Steps, Passable}
 use Rattle.audit.proofs.Passing.{moved, Kid, after, leaf_passable, above_passable, pass_leaf, pass_above, one_steps, more_steps, stepped_one, stepped_more}
-use Rattle.audit.proofs.Taking.{Took, Free, took_as, took_join, took_same, took_mark, took_keys, free_as, free_front, free_back, weight_unmet}
+use Rattle.audit.proofs.Taken.{took_leaf, took_one, took_more, took_above}
+use Rattle.audit.proofs.Taking.{Took, Free, took_mark, took_keys, free_as, free_front, free_back, weight_unmet}
 
 -- ---- the way up from an edge
 
@@ -163,10 +164,7 @@ module _ {K V : Type 0} (compares : K → K → Ordering) (T : Tables K V) where
       let s1 : Trail K = marked m s in
       record {
         passable = leaf_passable compares T least b m s (record { fits = v.fits; unmet = u; notes = subst (λ ks. Notes compares ks s.run) (sym keys) f.notes });
-        took = took_same (λ x. occurs x zero t) (map first (flat zero t)) (moved T m i n s1) (pass_leaf T b m s)
-            (took_as (λ x. same x m + 0) (λ x. occurs x zero t) ([] ++ keys_of T m i n) (map first (flat zero t)) s (moved T m i n s1)
-            (λ x. omega (arith, occurs_parts x zero t)) keys
-            (took_join (λ x. same x m) (λ _. 0) [] (keys_of T m i n) s s1 (moved T m i n s1) (took_mark m s u) (took_keys (keys_of T m i n) s1)));
+        took = took_leaf T b t s u keys;
       }
 
   -- ---- children that are passed over
@@ -193,9 +191,7 @@ module _ {K V : Type 0} (compares : K → K → Ordering) (T : Tables K V) where
         let d = led_by i (number t) [] l r k in
         record {
           steps = one_steps compares T (Kid compares T h) (after T h) m i b s d.1 (subst (λ c. Passable compares T 4 b h c s) d.0 p.passable);
-          took = took_same (λ x. total (occurs x h) (t ∷ [])) (map first (flat h t)) (after T h b (edge T.heads m i) s) (stepped_one T (after T h) m i b s)
-              (took_as (λ x. occurs x h t) (λ x. total (occurs x h) (t ∷ [])) (map first (flat h t)) (map first (flat h t)) s (after T h b (edge T.heads m i) s) (λ x. omega arith) refl
-              (subst (λ c. Took (λ x. occurs x h t) (map first (flat h t)) s (after T h b c s)) d.0 p.took));
+          took = took_one T h m i b t s (subst (λ c. Took (λ x. occurs x h t) (map first (flat h t)) s (after T h b c s)) d.0 p.took);
         }
 
     module _ (h : ℕ) (over : (c : Bounds) (t : Tree (K × V)) (s : Trail K) → Shown T 4 c h t → Free compares (λ x. occurs x h t) (map first (flat h t)) s → Passes 4 c h t s) where
@@ -224,7 +220,6 @@ module _ {K V : Type 0} (compares : K → K → Ordering) (T : Tables K V) where
           let p = over (only First b) t s a.0 (free_front compares (λ x. occurs x h t) (λ x. 0 + total (occurs x h) us) ks (one ++ ls) s f1) in
           let s1 : Trail K = after T h (only First b) c s in
           let s2 : Trail K = moved T m i 1 s1 in
-          let s3 : Trail K = stepped T (after T h) m n (i + 1) (only Last b) s2 in
           let t1 : Took (λ x. occurs x h t) ks s s1 = subst (λ c. Took (λ x. occurs x h t) ks s (after T h (only First b) c s)) d.0 p.took in
           let f2 : Free compares (λ x. 0 + total (occurs x h) us) (one ++ ls) s1 = free_back compares (λ x. occurs x h t) (λ x. 0 + total (occurs x h) us) ks (one ++ ls) s s1 t1 f1 in
           let f3 : Free compares (λ _. 0) one s1 = free_front compares (λ _. 0) (λ x. total (occurs x h) us) one ls s1 f2 in
@@ -233,13 +228,10 @@ module _ {K V : Type 0} (compares : K → K → Ordering) (T : Tables K V) where
           let at : 11 * m + i + 1 ≡ 11 * m + (i + 1) = omega arith in
           let rest = kids_over n (i + 1) (only Last b) us es s2 (omega arith) (omega arith) a.1 (run_parts itself (head_at T m).edges i (number t ∷ []) (map number us) r).1
           (linked_parts T m i (number t ∷ []) (map number us) k).1 (subst (λ a. Run first T.keys a es) at parts.1) f4 in
-          let t23 : Took (λ x. 0 + total (occurs x h) us) (one ++ ls) s1 s3 = took_join (λ _. 0) (λ x. total (occurs x h) us) one ls s1 s2 s3 t2 rest.took in
           record {
             steps = more_steps compares T (Kid compares T h) (after T h) m n i b s
                 (record { led = d.1; kid = subst (λ c. Passable compares T 4 (only First b) h c s) d.0 p.passable; notes = f3.notes; rest = rest.steps });
-            took = took_same (λ x. total (occurs x h) (t ∷ us)) (map first (weave (map (flat h) (t ∷ us)) (e ∷ es))) s3 (stepped_more T (after T h) m n i b s)
-                (took_as (λ x. occurs x h t + (0 + total (occurs x h) us)) (λ x. total (occurs x h) (t ∷ us)) (ks ++ (one ++ ls)) (map first (flat h t ++ e ∷ weave (map (flat h) us) es)) s s3
-                (λ x. omega arith) (sym split) (took_join (λ x. occurs x h t) (λ x. 0 + total (occurs x h) us) ks (one ++ ls) s s1 s3 t1 t23));
+            took = took_more T h m n i b t us e es s parts.0 t1 rest.took;
           }
 
   pass_over_inner : Sized T → (least : ℕ) (b : Bounds) (h : ℕ) (t : Tree (K × V)) (s : Trail K) (w : Inner T least b t) → Among (λ c k. Shown T 4 c h k) b (kids t)
@@ -254,7 +246,6 @@ module _ {K V : Type 0} (compares : K → K → Ordering) (T : Tables K V) where
       let n : ℕ = ends T.heads (suc h) b m - i in
       let u = unmet_root (suc h) t (map first (flat (suc h) t)) s p.node_is.inside sz f in
       let s1 : Trail K = marked m s in
-      let s2 : Trail K = stepped T (after T h) m n i b s1 in
       let keys : List K = map first (weave (map (flat h) (kids t)) (row t)) in
       let flat-is : map first (flat (suc h) t) ≡ keys = ap (map first) (flat_suc h t) in
       let t1 : Took (λ x. same x m) [] s s1 = took_mark m s u in
@@ -283,9 +274,7 @@ module _ {K V : Type 0} (compares : K → K → Ordering) (T : Tables K V) where
       let g = kids_over m wide h over n i b (kids t) (row t) s1 (sym v.count_is) (w.fan ∙ ap suc (sym v.count_is)) a edges linked run f2 in
       record {
         passable = above_passable compares T least b h m s (record { fits = v.fits; unmet = u; steps = g.steps });
-        took = took_same (λ x. occurs x (suc h) t) (map first (flat (suc h) t)) s2 (pass_above T b h m s)
-            (took_as (λ x. same x m + total (occurs x h) (kids t)) (λ x. occurs x (suc h) t) ([] ++ keys) (map first (flat (suc h) t)) s s2 (λ x. sym (occurs_parts x (suc h) t)) (sym flat-is)
-            (took_join (λ x. same x m) (λ x. total (occurs x h) (kids t)) [] keys s s1 s2 t1 g.took));
+        took = took_above T b h t s u g.took;
       }
 
   pub passes : Sized T → (least : ℕ) (b : Bounds) (h : ℕ) (t : Tree (K × V)) (s : Trail K) → Shown T least b h t → Free compares (λ x. occurs x h t) (map first (flat h t)) s → Passes least b h t s

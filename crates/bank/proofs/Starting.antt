@@ -9,7 +9,7 @@ use Rattle.books.specs.declared.places.Place.TheVariants as P
 use Rattle.books.specs.Books.{Book, bare, book_in, BookAt}
 use Rattle.books.specs.Runs.{Runs}
 use Rattle.books.specs.States.{State, Models}
-use Rattle.bank.specs.Layout.{FitsAlone, Ready, laid, LaysOut}
+use Rattle.bank.specs.Layout.{FitsAlone, UnusedSupply, laid, LaysOut}
 
 none_marked : (ms : List Bool) (x : ℕ) → marked ms ≡ 0 → slice_index_or ms x false ≡ false
 none_marked ms x q = go (slice_index_or ms x false) refl
@@ -19,7 +19,7 @@ none_marked ms x q = go (slice_index_or ms x false) refl
     go false h = refl
 
 module _ {K V : Type 0} (compares : K → K → Ordering) (s : State K V) where
-  fresh_models : FitsAlone s → Ready s → Models compares (laid s) (replicate 16 bare)
+  fresh_models : FitsAlone s → UnusedSupply s → Models compares (laid s) (replicate 16 bare)
   fresh_models f u = record {
     sized = record { most = f.most; keys_room = f.keys_room; values_room = f.values_room };
     size_is = refl;
@@ -45,7 +45,7 @@ module _ {K V : Type 0} (compares : K → K → Ordering) (s : State K V) where
     begins = begin_here s.stock;
   }
 
-  pub laid_taken : FitsAlone s → (Ready s → ⊥) → LaysOut compares s s (Err (2, []))
+  pub laid_taken : FitsAlone s → (UnusedSupply s → ⊥) → LaysOut compares s s (Err (2, []))
   laid_taken f n = record {
     misfit = λ m. absurd (m f);
     taken = λ _ _. (refl, refl);
@@ -54,7 +54,7 @@ module _ {K V : Type 0} (compares : K → K → Ordering) (s : State K V) where
     begins = begin_here s.stock;
   }
 
-  pub laid_out : FitsAlone s → Ready s → LaysOut compares s (laid s) (Ok tt)
+  pub laid_out : FitsAlone s → UnusedSupply s → LaysOut compares s (laid s) (Ok tt)
   laid_out f u = record {
     misfit = λ m. absurd (m f);
     taken = λ _ n. absurd (n u);

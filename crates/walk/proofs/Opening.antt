@@ -20,7 +20,7 @@ use Rattle.node.proofs.Frames.{held_low, holds_node, holds_leaf, holds_fan, hold
 use Rattle.node.proofs.Weaves.{all_both}
 use Rattle.walk.specs.declared.walks.Walk.{Walk}
 use Rattle.walk.specs.Climbs.{Breached}
-use Rattle.walk.specs.Walks.{Ready, Opened, Opens}
+use Rattle.walk.specs.Walks.{Standing, Opened, Opens}
 use Rattle.walk.specs.Window.{Bounds, bounds, bound, put, outer, Pane, Leafs, Inner, Among, Shown}
 use Rattle.walk.proofs.Handing.{ok_is, err_ok}
 use Rattle.walk.proofs.Stepping.{some_is}
@@ -102,7 +102,7 @@ module _ {K V : Type 0} (T : Tables K V) where
   abbrev pub walk_of : Handle → Handle → ℕ → Walk
   walk_of f g n = record { front = f; back = g; left = n }
 
-  module _ (S : Stock) (n : NodeRef) (count : ℕ) (t : Tree (K × V)) (w : Ready T S n count t) where
+  module _ (S : Stock) (n : NodeRef) (count : ℕ) (t : Tree (K × V)) (w : Standing T S n count t) where
     pub ready_low : n.height ≤ 5
     ready_low = held_low T n.height t w.owns.sized w.owns.holds w.formed (λ x. omega (arith, w.owns.owned x, mark_most S x))
 
@@ -138,11 +138,11 @@ module _ {K V : Type 0} (T : Tables K V) where
         }
 
   module _ (o : Option NodeRef) (n : NodeRef) (q : o ≡ Some n) (count : ℕ) where
-    opens_by : (r : Result Walk Fault) → Breached r → ((S : Stock) (t : Tree (K × V)) → Ready T S n count t → Opened T S n.height t r) → Opens T o count r
+    opens_by : (r : Result Walk Fault) → Breached r → ((S : Stock) (t : Tree (K × V)) → Standing T S n count t → Opened T S n.height t r) → Opens T o count r
     opens_by r g f = record {
       fault = g;
       none = λ z. absurd (none-some n (sym z ∙ q));
-      some = λ m z S t w. subst (λ m. Ready T S m count t → Opened T S m.height t r) (some_is n m (sym q ∙ z)) (f S t) w;
+      some = λ m z S t w. subst (λ m. Standing T S m count t → Opened T S m.height t r) (some_is n m (sym q ∙ z)) (f S t) w;
     }
 
     pub opens_strange : {X : Type 0} (P : X → Type 0) (y : Fault) (q : Result X Fault) (r : Result Walk Fault) → Breached r → Err y ≡ result_or q (Err Breach) → MatchResult q P (λ _. Strange T n.node) → Opens T o count r

@@ -21,7 +21,7 @@ use Rattle.node.proofs.Recounts.{reached_stands, reached_kid, held_fan, recount}
 use Rattle.node.proofs.Weaves.{total_map, total_same}
 use Rattle.walk.specs.Climbs.{Breached}
 use Rattle.walk.specs.Leaving.{under, GivesBack}
-use Rattle.walk.specs.Walks.{Ready, Releases}
+use Rattle.walk.specs.Walks.{Standing, Releases}
 use Rattle.walk.proofs.Handing.{err_ok}
 use Rattle.walk.proofs.Opening.{ready_low}
 use Rattle.walk.proofs.Stepping.{some_is}
@@ -112,18 +112,18 @@ module _ (S : Stock) (H : List Head) (h m : ℕ) where
 -- ---- release
 
 module _ {K V : Type 0} (T : Tables K V) (S : Stock) (o : Option NodeRef) (count : ℕ) (n : NodeRef) (q : o ≡ Some n) where
-  releases_by : (S' : Stock) (r : Result ℕ Fault) → Breached r → ((t : Tree (K × V)) → Ready T S n count t → (r ≡ Ok count) × Balanced S S' (λ x. occurs x n.height t) (λ _. 0)) → Releases T S S' o count r
+  releases_by : (S' : Stock) (r : Result ℕ Fault) → Breached r → ((t : Tree (K × V)) → Standing T S n count t → (r ≡ Ok count) × Balanced S S' (λ x. occurs x n.height t) (λ _. 0)) → Releases T S S' o count r
   releases_by S' r g f = record {
     fault = g;
     none = λ z. absurd (none-some n (sym z ∙ q));
-    some = λ m z t w. subst (λ m. Ready T S m count t → (r ≡ Ok count) × Balanced S S' (λ x. occurs x m.height t) (λ _. 0)) (some_is n m (sym q ∙ z)) (f t) w;
+    some = λ m z t w. subst (λ m. Standing T S m count t → (r ≡ Ok count) × Balanced S S' (λ x. occurs x m.height t) (λ _. 0)) (some_is n m (sym q ∙ z)) (f t) w;
   }
 
   pub releases_high : 5 < n.height → Releases T S S o count (Err Breach)
   releases_high l = releases_by S (Err Breach) refl (λ t w. absurd (omega (arith, ready_low T S n count t w)))
 
   -- the descent has an answer, and gives back the nodes of the tree
-  ready_given : (S' : Stock) (t : Tree (K × V)) (r : Result (Unit {0}) Fault) → Ready T S n count t → GivesBack S S' T.heads n.height n.node r → (r ≡ Ok tt) × Balanced S S' (λ x. occurs x n.height t) (λ _. 0)
+  ready_given : (S' : Stock) (t : Tree (K × V)) (r : Result (Unit {0}) Fault) → Standing T S n count t → GivesBack S S' T.heads n.height n.node r → (r ≡ Ok tt) × Balanced S S' (λ x. occurs x n.height t) (λ _. 0)
   ready_given S' t r w g =
       let h : ℕ = n.height in
       let u : (x : ℕ) → under x T.heads h n.node ≡ occurs x h t = λ x. ap (under x T.heads h) (sym w.number_is) ∙ under_held T x h t w.owns.holds in

@@ -7,7 +7,7 @@
 --   Hands              a step hands out the entry at its end; the nodes that are left behind go back
 --   Stepped            what a step answers
 --   StandsAt           what a reading of an entry answers
---   Ready              the tables hold a formed tree of so many entries under a root, and its nodes are out
+--   Standing           the tables hold a formed tree of so many entries under a root, and its nodes are out
 --   Opened             a walk over all entries of a tree
 --   Opens              what opening answers
 --   Emptied            what steps until none is left come to
@@ -76,7 +76,7 @@ pub record Stepped {K V : Type 0} (s : Side) (T : Tables K V) (S S' : Stock) (w 
 abbrev pub StandsAt : {K V : Type 0} → Tables K V → Spot → Result (K × V) Fault → Type 0
 StandsAt {K} {V} T p r = (us vs : List (K × V)) (x : K × V) (cs : List ℕ) → Sized T → Node T p.node (us ++ x ∷ vs) cs → length us ≡ p.idx → r ≡ Ok x
 
-pub record Ready {K V : Type 0} (T : Tables K V) (S : Stock) (root : NodeRef) (count : ℕ) (t : Tree (K × V)) : Type 0 where
+pub record Standing {K V : Type 0} (T : Tables K V) (S : Stock) (root : NodeRef) (count : ℕ) (t : Tree (K × V)) : Type 0 where
   pub owns : Owns T S root.height t
   pub formed : Formed root.height t
   pub number_is : number t ≡ root.node
@@ -93,7 +93,7 @@ pub record Opened {K V : Type 0} (T : Tables K V) (S : Stock) (h : ℕ) (t : Tre
 pub record Opens {K V : Type 0} (T : Tables K V) (root : Option NodeRef) (count : ℕ) (r : Result Walk Fault) : Type 0 where
   pub fault : Breached r
   pub none : root ≡ None → r ≡ Ok no_walk
-  pub some : (n : NodeRef) → root ≡ Some n → (S : Stock) (t : Tree (K × V)) → Ready T S n count t → Opened T S n.height t r
+  pub some : (n : NodeRef) → root ≡ Some n → (S : Stock) (t : Tree (K × V)) → Standing T S n count t → Opened T S n.height t r
 
 pub record Emptied {K V : Type 0} (T : Tables K V) (S S' : Stock) (w w' : Walk) (r : Result ℕ Fault) : Type 0 where
   pub fault : Breached r
@@ -112,4 +112,4 @@ pub record Closes {K V : Type 0} (T : Tables K V) (S S' : Stock) (w : Walk) (r :
 pub record Releases {K V : Type 0} (T : Tables K V) (S S' : Stock) (root : Option NodeRef) (count : ℕ) (r : Result ℕ Fault) : Type 0 where
   pub fault : Breached r
   pub none : root ≡ None → (r ≡ Ok 0) × (S' ≡ S)
-  pub some : (n : NodeRef) → root ≡ Some n → (t : Tree (K × V)) → Ready T S n count t → (r ≡ Ok count) × Balanced S S' (λ x. occurs x n.height t) (λ _. 0)
+  pub some : (n : NodeRef) → root ≡ Some n → (t : Tree (K × V)) → Standing T S n count t → (r ≡ Ok count) × Balanced S S' (λ x. occurs x n.height t) (λ _. 0)
