@@ -1,7 +1,7 @@
 -- One level of the descent of a cut, and what the recursion did below it. Assumes nothing.
-use Rattle.map.specs.Lookup.{keys_at}
-use Rattle.rules.proofs.Searches.{first_map, made_map, first_is}
-use Rattle.std.proofs.Common.{◌≡◌, ℕ, zero, suc, ◌+◌, ◌-◌, ◌*◌, ◌<◌, ◌≤◌, Bool, List, [], ◌∷◌, ◌++◌, map, length, get_or, take, drop, Ok, Err, All, Result, Ordering, sym, refl, ap, ◌∙◌, subst, ap₂, ⊎_elim, append_assoc, arith, length-append, length-drop, take-append-drop, length-take}
+use Rattle.map.proofs.Seeking.{index_is, made_is}
+use Rattle.rules.proofs.Searches.{first_is}
+use Rattle.std.proofs.Common.{◌≡◌, ℕ, zero, suc, ◌+◌, ◌-◌, ◌<◌, ◌≤◌, Bool, List, [], ◌∷◌, ◌++◌, map, length, get_or, take, drop, Ok, Err, All, Result, Ordering, sym, refl, ap, ◌∙◌, subst, ap₂, ⊎_elim, append_assoc, arith, length-append, length-drop, take-append-drop, length-take}
 use lib.ListN.{length-map}
 use lib.Seq.{split_at}
 use Rattle.std.proofs.lemmas.List.Elements.{All-nil, All-cons, All-append, All-take, All-drop}
@@ -12,7 +12,6 @@ use Rattle.supply.specs.Stocks.{Stock}
 use Rattle.order.specs.Found.{first_not_below, comparisons}
 use Rattle.node.specs.declared.head.Head.{Head}
 use Rattle.node.specs.declared.nodes.NodeRef.{NodeRef}
-use Rattle.node.specs.Cells.{span}
 use Rattle.node.specs.Links.{edge}
 use Rattle.node.specs.Shape.{Tree, node, none, number, row, kids, kid, mk, total}
 use Rattle.node.specs.Sorted.{index}
@@ -78,20 +77,14 @@ module _ {K V : Type 0} (place : K → Ordering) (T : Tables K V) (h m i made : 
   abbrev pl : K × V → Ordering
   pl e = place (first e)
 
-  here : Node T m (row t) (numbers t)
-  here = subst (λ x. Node T x (row t) (numbers t)) at-m (holds_node T h t w)
-
-  keys : keys_at T m ≡ map first (row t)
-  keys = ap (span T.keys (11 * m)) here.len_is ∙ here.keys_are
-
   pub stop_first : i ≡ first_not_below pl (row t)
-  stop_first = v.here ∙ ap (first_not_below place) keys ∙ first_map first place (row t)
+  stop_first = v.here ∙ index_is place T h m t w at-m
 
   pub stop_index : i ≡ index (beneath place) (row t)
   stop_index = stop_first ∙ first_is pl (row t)
 
   pub stop_made : made ≡ comparisons pl (row t)
-  stop_made = v.count ∙ ap (comparisons place) keys ∙ made_map first place (row t)
+  stop_made = v.count ∙ made_is place T h m t w at-m
 
 -- ---- at a leaf
 

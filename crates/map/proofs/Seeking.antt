@@ -91,7 +91,7 @@ module _ {K V : Type 0} (place : K → Ordering) (T : Tables K V) (h m : ℕ) (t
   pub index_is : first_not_below place (keys_at T m) ≡ first_not_below pl (row t)
   index_is = ap (first_not_below place) keys ∙ first_map first place (row t)
 
-  made_is : comparisons place (keys_at T m) ≡ comparisons pl (row t)
+  pub made_is : comparisons place (keys_at T m) ≡ comparisons pl (row t)
   made_is = ap (comparisons place) keys ∙ made_map first place (row t)
 
   -- the search came to r
