@@ -31,9 +31,9 @@ impl Book {
 }
 
 /// Performs so many calls on a bank of so many nodes, and answers how many were refused for want of nodes.
-fn run(seed: u64, nodes: u16, calls: usize) -> usize {
+fn run(start: u64, nodes: u16, calls: usize) -> usize {
     const PLACES: u32 = 4;
-    let mut numbers = Numbers(seed);
+    let mut numbers = Numbers(start);
     let mut bank = Bank::new(nodes).unwrap();
     let mut books: Vec<Book> = (0..PLACES).map(|_| Book::Map(BTreeMap::new())).collect();
     let mut short = 0;
@@ -123,13 +123,13 @@ fn cut(
 
 #[test]
 fn a_large_bank_answers_as_maps_do() {
-    for seed in 0..4 {
-        assert_eq!(run(seed, 4096, 20_000), 0);
+    for start in 0..4 {
+        assert_eq!(run(start, 4096, 20_000), 0);
     }
 }
 
 #[test]
 fn a_small_bank_refuses_for_want_of_nodes_alone() {
-    let short: usize = (0..8).map(|seed| run(100 + seed, 24, 5_000)).sum();
+    let short: usize = (0..8).map(|start| run(100 + start, 24, 5_000)).sum();
     assert!(short > 0);
 }
