@@ -118,45 +118,35 @@ pub struct Bank {
 //
 // SAFETY: the declarations are those of `bank.h`. Each pointer and length are those of one `Vec`, and the bank's pointer that of a `Box`, so they are
 // aligned, not null, within memory that is written, and apart from each other. Both are lent for the call: `&mut` where the library writes.
-macro_rules! reading {
-    ($self:ident.$name:ident($($arg:expr),*)) => {
+macro_rules! call {
+    ($self:ident.$name:ident, $bank:expr, $pointer:ident; $($arg:expr),*) => {
         unsafe {
             sys::$name(
-                &*$self.bank,
-                $self.heads.as_ptr(), $self.heads.len(),
-                $self.keys.as_ptr(), $self.keys.len(),
-                $self.values.as_ptr(), $self.values.len(),
+                $bank,
+                $self.heads.$pointer(), $self.heads.len(),
+                $self.keys.$pointer(), $self.keys.len(),
+                $self.values.$pointer(), $self.values.len(),
                 $($arg),*
             )
         }
+    };
+}
+
+macro_rules! reading {
+    ($self:ident.$name:ident($($arg:expr),*)) => {
+        call!($self.$name, &*$self.bank, as_ptr; $($arg),*)
     };
 }
 
 macro_rules! writing_bank {
     ($self:ident.$name:ident($($arg:expr),*)) => {
-        unsafe {
-            sys::$name(
-                &mut *$self.bank,
-                $self.heads.as_ptr(), $self.heads.len(),
-                $self.keys.as_ptr(), $self.keys.len(),
-                $self.values.as_ptr(), $self.values.len(),
-                $($arg),*
-            )
-        }
+        call!($self.$name, &mut *$self.bank, as_ptr; $($arg),*)
     };
 }
 
 macro_rules! writing_all {
     ($self:ident.$name:ident($($arg:expr),*)) => {
-        unsafe {
-            sys::$name(
-                &mut *$self.bank,
-                $self.heads.as_mut_ptr(), $self.heads.len(),
-                $self.keys.as_mut_ptr(), $self.keys.len(),
-                $self.values.as_mut_ptr(), $self.values.len(),
-                $($arg),*
-            )
-        }
+        call!($self.$name, &mut *$self.bank, as_mut_ptr; $($arg),*)
     };
 }
 
