@@ -13,8 +13,8 @@
  *  - There are some 64 KiB of stack left.
  *
  * A bank is laid out first, with tables of as many heads as it has nodes and eleven keys and eleven values a node, and then passed with these
- * tables, which nobody but the library writes. Then no call but a second laying out is refused with number 1, 2, 5 or 7. A caller that writes to a
- * bank or its tables gets some answer, and calls that end.
+ * tables, which nobody but the library writes. Then no call but a second laying out is refused with number 1, 2, 5 or 65535. A caller that writes to
+ * a bank or its tables gets some answer, and calls that end.
  *
  * Every call first goes through the whole supply, to see that the fields are those of a bank; its time grows with the number of nodes. */
 #ifndef BANK_H
@@ -89,8 +89,8 @@ enum bank_code {
     BANK_BREACH = 5,
     /* More nodes are needed than are left: both numbers stand beside this one. Nothing has changed. */
     BANK_SHORT = 6,
-    /* The fields of the bank are not those of a bank. Nothing has changed. */
-    BANK_NOT_A_BANK = 7
+    /* The fields of the bank are not those of a bank. Nothing has changed. No call of a bank has this number for a refusal of its own. */
+    BANK_NOT_A_BANK = 65535
 };
 
 /* Whether a call was granted. needed and allowance count beside BANK_SHORT alone, and the other fields of a reply beside BANK_GRANTED alone. */

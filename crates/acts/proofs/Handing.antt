@@ -146,7 +146,7 @@ module _ {K V : Type 0} (compares : K → K → Ordering) (T : Tables K V) where
   dropped_none : (S S' : Stock) (b : Book (K × V)) (r : Result ℕ Fault) → length (entries b) ≡ 0 → ((x : ℕ) → uses x b ≡ 0) → (r ≡ Ok 0) × (S' ≡ S) → Drops compares T S S' b r
   dropped_none S S' b r l u d =
       dropped_as S S' b r (d.0 ∙ ap (λ n. Ok n) (sym l))
-      (subst (λ S'. Balanced S S' (λ x. uses x b) (λ _. 0)) (sym d.1) (record { size = refl; marks = λ x. omega (arith, u x); allowance = refl }))
+      (subst (λ S'. Balanced S S' (λ x. uses x b) (λ _. 0)) (sym d.1) (record { size = refl; marks = λ x. omega (arith, u x); allowance = refl; aside = refl; bars = λ x. refl }))
 
   module _ (S S' : Stock) where
     closed_at : (w : Walk) (r : Result ℕ Fault) → Closes T S S' w r → (b : Book (K × V)) → Ready compares T S (P.Walk w) b → Drops compares T S S' b r

@@ -39,7 +39,7 @@ module _ {K V : Type 0} (compares : K → K → Ordering) where
 
   -- nothing is cut
   stays_whole : (T : Tables K V) (S : Stock) (p : Place) (b : Book (K × V)) → BookAt compares T p b → Comes T T S S b (Ok (p, P.Bare, (0, 0, 0))) (Ok (Parted 0 0 0), (b, bare))
-  stays_whole T S p b a = (refl, record { stays = a; goes = tt; beside = beside_none T S _; balanced = record { size = refl; marks = λ x. omega arith; allowance = refl } })
+  stays_whole T S p b a = (refl, record { stays = a; goes = tt; beside = beside_none T S _; balanced = record { size = refl; marks = λ x. omega arith; allowance = refl; aside = refl; bars = λ x. refl } })
 
   pub cuts_nowhere : (T : Tables K V) (S : Stock) (p : Place) (place : Query K) → ((root : NodeRef) (count : ℕ) → p ≡ P.Tree root count → ⊥) → CutsIn compares T T S S p place (Ok (p, P.Bare, (0, 0, 0)))
   unfolding CutsIn

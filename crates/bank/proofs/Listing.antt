@@ -28,7 +28,7 @@ module _ {K V : Type 0} {compares : K → K → Ordering} (ordered : Ordered com
   pub all_none : (s : State K V) → PerformsAll compares [] s s []
   all_none s bs f m = record { books = bs; models = m; size = refl; runs = λ past w. w; even = λ past w. (runs_stand compares past s.stock bs ordered w).2; low = sound_low compares bs (all_sound compares s bs m) }
 
-  fits_on : (s s' : State K V) (bs : List (Book (K × V))) → Fit s → s'.size ≡ s.size → Models compares s' bs → Fit s'
+  pub fits_on : (s s' : State K V) (bs : List (Book (K × V))) → Fit s → s'.size ≡ s.size → Models compares s' bs → Fit s'
   fits_on s s' bs f q m = record {
     fits = record {
       some = omega (arith, f.fits.some, f.size_is, m.size_is);

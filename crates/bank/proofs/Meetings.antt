@@ -1,14 +1,16 @@
 -- What a call does to a bank in good form, from what it does at its places. Assumes nothing.
-use Rattle.std.proofs.Common.{◌≡◌, ◌≢◌, ℕ, ◌+◌, ◌<◌, Bool, true, false, cond, List, ◌∷◌, length, slice_set, nat_lt, nat_eq, Some, None, Ok, Err, Option, Result, refl, sym, ap, ◌∙◌, subst}
+use Rattle.std.proofs.Common.{◌≡◌, ◌≢◌, ℕ, ◌+◌, ◌<◌, Bool, true, false, cond, List, ◌∷◌, length, slice_set, nat_lt, nat_eq, Some, None, Ok, Err, Option, Result, refl, sym, ap, ◌∙◌, subst, arith}
 use Rattle.std.proofs.lemmas.Bool.{ltb-true}
 use Rattle.std.specs.declared.cmp.Ordering.{Ordering}
-use Rattle.supply.specs.Stocks.{Stock, size_of, outs_of}
+use Rattle.supply.specs.Stocks.{Stock, size_of, is_out, is_barred, outs_of}
+use Rattle.node.specs.Balance.{Beside, Spared}
+use Rattle.node.proofs.Balances.{beside_spared, spared_none}
 use Rattle.order.specs.Laws.{Ordered, Placed}
 use Rattle.node.specs.Store.{Tables}
 use Rattle.books.specs.declared.places.Place.{Place}
 use Rattle.books.specs.declared.calls.Answer.{Answer}
 use Rattle.books.specs.declared.calls.Call.TheVariants.{Insert, Lookup, Count, Cut, Open, Step, Close, Release, Audit}
-use Rattle.books.specs.Books.{Book, bare, book_in}
+use Rattle.books.specs.Books.{Book, bare, uses, book_in}
 use Rattle.books.specs.Meaning.{Agreeing, Means}
 use Rattle.books.specs.Places.{place_in}
 use Rattle.books.specs.Refusals.{Code}
@@ -24,7 +26,7 @@ use Rattle.books.proofs.Running.{sound_low, runs_stand}
 use Rattle.acts.specs.Acts.{Becomes, Halves}
 use Rattle.bank.specs.Calls.{Fit, Met, Performs}
 use Rattle.bank.specs.Gate.{kinds}
-use Rattle.bank.proofs.Keepings.{all_sound, kind_same, one_replaced, two_replaced}
+use Rattle.bank.proofs.Keepings.{all_sound, kind_same, uses_one, one_replaced, two_replaced}
 
 -- the query of a call agrees with the order of the keys
 pub agreeing : {K V Q : Type 0} {compares : K → K → Ordering} {places : Q → K → Ordering} → Placed compares places → (c : Call K V Q) → Agreeing compares (asked places c)
@@ -77,9 +79,9 @@ module _ {K V : Type 0} {compares : K → K → Ordering} (ordered : Ordered com
 
   module _ (s' : State K V) (r : Result (Answer K V) Code) (books : List (Book (K × V))) (m' : Models compares s' books) (fresh : ℕ → ℕ) (top : ℕ)
       (by : outcome r books ≡ rule compares fresh top s.stock.allowance c bs) (size : size_of s'.stock ≡ size_of s.stock) (allowance : s'.stock.allowance + outs_of s'.stock ≡ s.stock.allowance + outs_of s.stock)
-      (declined : (e : Code) → r ≡ Err e → s' ≡ s) where
+      (aside : s'.stock.aside ≡ s.stock.aside) (spared : Spared s.tables s'.tables s.stock) (declined : (e : Code) → r ≡ Err e → s' ≡ s) where
     following : Next compares (event c r) s.stock bs s'.stock books
-    following = record { fresh = fresh; top = top; by_rule = by; size = size; allowance = allowance }
+    following = record { fresh = fresh; top = top; by_rule = by; size = size; allowance = allowance; aside = aside }
 
     running : (past : List (Event K V)) → Runs compares past s.stock bs → Runs compares (event c r ∷ past) s'.stock books
     unfolding Runs
@@ -94,6 +96,7 @@ module _ {K V : Type 0} {compares : K → K → Ordering} (ordered : Ordered com
       runs = running;
       even = λ past w. (runs_stand compares (event c r ∷ past) s'.stock books ordered (running past w)).2;
       low = sound_low compares books (all_sound compares s' books m');
+      spared = spared;
       declined = declined;
       numbered = λ e q. rule_numbers compares fresh top s.stock.allowance c bs e (ap (λ (o : Outcome K V). o.answer) (sym by) ∙ q);
     }
@@ -102,7 +105,7 @@ module _ {K V : Type 0} {compares : K → K → Ordering} (ordered : Ordered com
   pub met_refused : (e : Code) → check (kinds s.places) c ≡ Some e → (s' : State K V) → s' ≡ s → Met compares c s s' (Err e) bs
   met_refused e q s' z =
       subst (λ y. Met compares c s y (Err e) bs) (sym z)
-      (met_rule s (Err e) bs m (λ _. 0) 0 (sym (ap (checked compares (λ _. 0) 0 s.stock.allowance c bs) (check_is ∙ q))) refl refl (λ _ _. refl))
+      (met_rule s (Err e) bs m (λ _. 0) 0 (sym (ap (checked compares (λ _. 0) 0 s.stock.allowance c bs) (check_is ∙ q))) refl refl refl (spared_none s.tables s.stock) (λ _ _. refl))
 
   -- whatever the checks say
   pub met_any : (s' : State K V) (r : Result (Answer K V) Code) → Fit s → Performs compares c s s' r → Met compares c s s' r bs
@@ -112,24 +115,27 @@ module _ {K V : Type 0} {compares : K → K → Ordering} (ordered : Ordered com
       go None q = d.meets f q bs m
       go (Some e) q = let u = d.refused f e q in subst (λ y. Met compares c s s' y bs) (sym u.0) (met_refused e q s' u.1)
 
-module _ {K V : Type 0} {compares : K → K → Ordering} (ordered : Ordered compares) (s : State K V) (c : Asked K V) (pass : check (kinds s.places) c ≡ None) (bs : List (Book (K × V))) (m : Models compares s bs) where
+module _ {K V : Type 0} {compares : K → K → Ordering} (ordered : Ordered compares) (s : State K V) (c : Asked K V) (clear : (x : ℕ) → is_out s.stock x ≡ true → is_barred s.stock x ≡ false) (pass : check (kinds s.places) c ≡ None) (bs : List (Book (K × V))) (m : Models compares s bs) where
   rule_acts : (fresh : ℕ → ℕ) (top : ℕ) → rule compares fresh top s.stock.allowance c bs ≡ act compares fresh top s.stock.allowance c bs
   rule_acts fresh top = ap (checked compares fresh top s.stock.allowance c bs) (check_is ordered s c bs m ∙ pass)
 
   met_by : (s' : State K V) (r : Result (Answer K V) Code) (books : List (Book (K × V))) → Models compares s' books → (fresh : ℕ → ℕ) (top : ℕ) → outcome r books ≡ act compares fresh top s.stock.allowance c bs
-      → size_of s'.stock ≡ size_of s.stock → s'.stock.allowance + outs_of s'.stock ≡ s.stock.allowance + outs_of s.stock → ((e : Code) → r ≡ Err e → s' ≡ s) → Met compares c s s' r bs
-  met_by s' r books m' fresh top by size allowance declined = met_rule ordered s c bs m s' r books m' fresh top (by ∙ sym (rule_acts fresh top)) size allowance declined
+      → size_of s'.stock ≡ size_of s.stock → s'.stock.allowance + outs_of s'.stock ≡ s.stock.allowance + outs_of s.stock → s'.stock.aside ≡ s.stock.aside → Spared s.tables s'.tables s.stock → ((e : Code) → r ≡ Err e → s' ≡ s) → Met compares c s s' r bs
+  met_by s' r books m' fresh top by size allowance aside spared declined = met_rule ordered s c bs m s' r books m' fresh top (by ∙ sym (rule_acts fresh top)) size allowance aside spared declined
+
+  spared_at : (p : ℕ) → p < 16 → (T' : Tables K V) → Beside s.tables T' s.stock (λ x. uses x (book_in bs p)) → Spared s.tables T' s.stock
+  spared_at p l T' b = beside_spared s.tables T' s.stock (λ x. uses x (book_in bs p)) b (λ x. omega (arith, uses_one bs p x (subst (λ n. p < n) (sym m.sixteen) l), m.numbers x)) clear
 
   -- granted: the place and its book are replaced
   pub met_one : (p : ℕ) → p < 16 → length s.places ≡ 16 → (fresh : ℕ → ℕ) (top : ℕ) (o : Part K V) → act compares fresh top s.stock.allowance c bs ≡ placed p bs o → (T' : Tables K V) (S' : Stock) (place : Place) (x : Answer K V) → o.0 ≡ Ok x
       → Becomes compares s.tables T' s.stock S' (book_in bs p) place o.1 → Met compares c s (record { tables = T'; size = s.size; places = slice_set s.places p place; stock = S' }) (Ok x) bs
   met_one p l len fresh top o by T' S' place x q d =
       met_by (record { tables = T'; size = s.size; places = slice_set s.places p place; stock = S' }) (Ok x) (slice_set bs p o.1) (one_replaced compares s bs m T' S' p l len place o.1 d) fresh top
-      (ap (λ r. outcome r (slice_set bs p o.1)) (sym q) ∙ sym by) d.balanced.size d.balanced.allowance (λ e z. absurd (ok_err x e z))
+      (ap (λ r. outcome r (slice_set bs p o.1)) (sym q) ∙ sym by) d.balanced.size d.balanced.allowance d.balanced.aside (spared_at p l T' d.beside) (λ e z. absurd (ok_err x e z))
 
   -- nothing has changed
   pub met_same : (s' : State K V) → s' ≡ s → (fresh : ℕ → ℕ) (top : ℕ) (r : Result (Answer K V) Code) → act compares fresh top s.stock.allowance c bs ≡ outcome r bs → Met compares c s s' r bs
-  met_same s' e fresh top r by = subst (λ z. Met compares c s z r bs) (sym e) (met_by s r bs m fresh top (sym by) refl refl (λ e z. refl))
+  met_same s' e fresh top r by = subst (λ z. Met compares c s z r bs) (sym e) (met_by s r bs m fresh top (sym by) refl refl refl (spared_none s.tables s.stock) (λ e z. refl))
 
   -- declined: nothing has changed
   pub met_declined : (s' : State K V) → s' ≡ s → (p : ℕ) (fresh : ℕ → ℕ) (top : ℕ) (o : Part K V) → act compares fresh top s.stock.allowance c bs ≡ placed p bs o → (e : Code) → o ≡ (Err e, book_in bs p) → Met compares c s s' (Err e) bs
@@ -143,7 +149,7 @@ module _ {K V : Type 0} {compares : K → K → Ordering} (ordered : Ordered com
   met_two p o l k n len none fresh top q by T' S' stays goes x z d =
       met_by (record { tables = T'; size = s.size; places = slice_set (slice_set s.places p stays) o goes; stock = S' }) (Ok x) (slice_set (slice_set bs p (q.1).0) o (q.1).1)
       (two_replaced compares s bs m T' S' p o l k n len none stays goes (q.1).0 (q.1).1 d) fresh top
-      (ap (λ r. outcome r (slice_set (slice_set bs p (q.1).0) o (q.1).1)) (sym z) ∙ sym by) d.balanced.size d.balanced.allowance (λ e y. absurd (ok_err x e y))
+      (ap (λ r. outcome r (slice_set (slice_set bs p (q.1).0) o (q.1).1)) (sym z) ∙ sym by) d.balanced.size d.balanced.allowance d.balanced.aside (spared_at p l T' d.beside) (λ e y. absurd (ok_err x e y))
 
   pub met_undivided : (s' : State K V) → s' ≡ s → (p o : ℕ) → p ≢ o → book_in bs o ≡ bare → (fresh : ℕ → ℕ) (top : ℕ) (q : Parts K V) → act compares fresh top s.stock.allowance c bs ≡ parted p o bs q → (e : Code) → q ≡ (Err e, (book_in bs p, bare))
       → Met compares c s s' (Err e) bs

@@ -4,7 +4,7 @@ use Rattle.std.proofs.lemmas.Bool.{false≢true}
 use Rattle.std.proofs.lemmas.Option.{none-some}
 use Rattle.std.specs.declared.cmp.Ordering.{Ordering}
 use Rattle.supply.specs.declared.faults.Fault.{Fault}
-use Rattle.supply.specs.Stocks.{Stock}
+use Rattle.supply.specs.Stocks.{Stock, is_out, is_barred}
 use Rattle.order.specs.Laws.{Ordered}
 use Rattle.node.specs.Balance.{Unchanged}
 use Rattle.node.specs.Store.{Tables}
@@ -41,7 +41,7 @@ module _ {K V : Type 0} (compares : K → K → Ordering) (c : Call K V) (s s' :
     meets = λ _ _ bs m. meets bs m;
   }
 
-module _ {K V : Type 0} {compares : K → K → Ordering} (ordered : Ordered compares) (s : State K V) (fit : Fit s) where
+module _ {K V : Type 0} {compares : K → K → Ordering} (ordered : Ordered compares) (s : State K V) (fit : Fit s) (clear : (x : ℕ) → is_out s.stock x ≡ true → is_barred s.stock x ≡ false) where
   some : 0 < s.size
   some = subst (λ n. 0 < n) (sym fit.size_is) fit.fits.some
 
@@ -88,7 +88,7 @@ module _ {K V : Type 0} {compares : K → K → Ordering} (ordered : Ordered com
         passed compares (Insert p k v) s _ fit w.pass (Ok (Inserted old)) refl (λ n. absurd (false≢true n)) (λ n. absurd (false≢true n)) refl
         (λ bs m.
         let d = i (book_in bs p) (ready is_map p here w bs m) (kind is_map p here w bs m) in
-        met_one ordered s (Insert p k v) w.pass bs m p (low is_map p here w) w.long d.fresh d.top (insert_in compares d.fresh d.top s.stock.allowance (k, v) (book_in bs p)) refl T' S' after (Inserted old) d.acts.0 d.acts.1)
+        met_one ordered s (Insert p k v) clear w.pass bs m p (low is_map p here w) w.long d.fresh d.top (insert_in compares d.fresh d.top s.stock.allowance (k, v) (book_in bs p)) refl T' S' after (Inserted old) d.acts.0 d.acts.1)
 
     pub inserted_not : (f : Fault) (e : Code) → e ≡ fault_code f → InsertsIn compares s.tables T' s.stock S' here (k, v) (Err f) → Performs compares (Insert p k v) s (with_places T' S' s.places) (Err e)
     unfolding InsertsIn
@@ -96,7 +96,7 @@ module _ {K V : Type 0} {compares : K → K → Ordering} (ordered : Ordered com
         passed compares (Insert p k v) s _ fit w.pass (Err e) refl (λ n. absurd (false≢true n)) (λ n. absurd (false≢true n)) refl
         (λ bs m.
         let d = i (book_in bs p) (ready is_map p here w bs m) (kind is_map p here w bs m) in
-        met_declined ordered s (Insert p k v) w.pass bs m _ (same_state T' S' d.acts.1) p d.fresh d.top
+        met_declined ordered s (Insert p k v) clear w.pass bs m _ (same_state T' S' d.acts.1) p d.fresh d.top
         (insert_in compares d.fresh d.top s.stock.allowance (k, v) (book_in bs p)) refl e (d.acts.0 ∙ ap (λ y. (Err y, book_in bs p)) (sym z)))
 
   module _ (p : ℕ) (place : Query K) (here : Place) (w : Asked is_map p here) where
@@ -105,7 +105,7 @@ module _ {K V : Type 0} {compares : K → K → Ordering} (ordered : Ordered com
     looked_done y i =
         passed compares (Lookup p place) s s fit w.pass (Ok (found y)) refl (λ _. refl) (λ _. refl) refl
         (λ bs m.
-        met_same ordered s (Lookup p place) w.pass bs m s refl (λ _. 0) 0 (Ok (found y)) (ap (λ r. outcome r bs) (i s.stock (book_in bs p) (ready is_map p here w bs m) (kind is_map p here w bs m))))
+        met_same ordered s (Lookup p place) clear w.pass bs m s refl (λ _. 0) 0 (Ok (found y)) (ap (λ r. outcome r bs) (i s.stock (book_in bs p) (ready is_map p here w bs m) (kind is_map p here w bs m))))
 
     pub looked_not : (f : Fault) (e : Code) → LooksIn compares s.tables here place (Err f) → Performs compares (Lookup p place) s s (Err e)
     unfolding LooksIn
@@ -131,7 +131,7 @@ module _ {K V : Type 0} {compares : K → K → Ordering} (ordered : Ordered com
   counted_done p here w n q =
       passed compares (Count p) s s fit w.pass (Ok (Counted n)) refl (λ _. refl) (λ _. refl) refl
       (λ bs m.
-      met_same ordered s (Count p) w.pass bs m s refl (λ _. 0) 0 (Ok (Counted n))
+      met_same ordered s (Count p) clear w.pass bs m s refl (λ _. 0) 0 (Ok (Counted n))
       (ap (λ k. outcome (Ok (Counted k)) bs) (sym (q ∙ count_same s.tables here (book_in bs p) (ready (λ _. true) p here w bs m).at))))
 
   module _ (p o : ℕ) (place : Query K) (T' : Tables K V) (S' : Stock) (here : Place) (pass : check_two (kinds s.places) p o ≡ None) (h : here ≡ place_in s.places p) (long : length s.places ≡ 16) where
@@ -148,7 +148,7 @@ module _ {K V : Type 0} {compares : K → K → Ordering} (ordered : Ordered com
         passed compares (Cut p o place) s _ fit pass (Ok (counts n)) refl (λ n. absurd (false≢true n)) (λ n. absurd (false≢true n)) refl
         (λ bs m.
         let d = i (book_in bs p) (ready_in p passes.low bs m here h) (kind_in p passes.low bs m is_map passes.kind) in
-        met_two ordered s (Cut p o place) pass bs m p o passes.low passes.low' passes.apart long (second_bare bs m) d.fresh 0 (cut_in d.fresh s.stock.allowance place (book_in bs p)) refl T' S' stays goes (counts n) d.acts.0 d.acts.1)
+        met_two ordered s (Cut p o place) clear pass bs m p o passes.low passes.low' passes.apart long (second_bare bs m) d.fresh 0 (cut_in d.fresh s.stock.allowance place (book_in bs p)) refl T' S' stays goes (counts n) d.acts.0 d.acts.1)
 
     pub cut_not : (f : Fault) (e : Code) → e ≡ fault_code f → CutsIn compares s.tables T' s.stock S' here place (Err f) → Performs compares (Cut p o place) s (with_places T' S' s.places) (Err e)
     unfolding CutsIn
@@ -156,7 +156,7 @@ module _ {K V : Type 0} {compares : K → K → Ordering} (ordered : Ordered com
         passed compares (Cut p o place) s _ fit pass (Err e) refl (λ n. absurd (false≢true n)) (λ n. absurd (false≢true n)) refl
         (λ bs m.
         let d = i (book_in bs p) (ready_in p passes.low bs m here h) (kind_in p passes.low bs m is_map passes.kind) in
-        met_undivided ordered s (Cut p o place) pass bs m _ (same_state T' S' d.acts.1) p o passes.apart (second_bare bs m) d.fresh 0
+        met_undivided ordered s (Cut p o place) clear pass bs m _ (same_state T' S' d.acts.1) p o passes.apart (second_bare bs m) d.fresh 0
         (cut_in d.fresh s.stock.allowance place (book_in bs p)) refl e (d.acts.0 ∙ ap (λ y. (Err y, (book_in bs p, bare))) (sym z)))
 
   module _ (p : ℕ) (here : Place) (w : Asked is_map p here) where
@@ -166,7 +166,7 @@ module _ {K V : Type 0} {compares : K → K → Ordering} (ordered : Ordered com
         passed compares (Open p) s _ fit w.pass (Ok Opened) refl (λ _. refl) (λ n. absurd (false≢true n)) refl
         (λ bs m.
         let d = i (book_in bs p) (ready is_map p here w bs m) (kind is_map p here w bs m) in
-        met_one ordered s (Open p) w.pass bs m p (low is_map p here w) w.long (λ _. 0) 0 (open_in (book_in bs p)) refl s.tables s.stock after Opened d.0 d.1)
+        met_one ordered s (Open p) clear w.pass bs m p (low is_map p here w) w.long (λ _. 0) 0 (open_in (book_in bs p)) refl s.tables s.stock after Opened d.0 d.1)
 
     pub opened_not : (f : Fault) (e : Code) → OpensIn compares s.tables s.stock here (Err f) → Performs compares (Open p) s s (Err e)
     unfolding OpensIn
@@ -180,7 +180,7 @@ module _ {K V : Type 0} {compares : K → K → Ordering} (ordered : Ordered com
         passed compares (Release p) s _ fit w.pass (Ok (Dropped n)) refl (λ _. refl) (λ n. absurd (false≢true n)) refl
         (λ bs m.
         let d = i (book_in bs p) (ready is_map p here w bs m) (kind is_map p here w bs m) in
-        met_one ordered s (Release p) w.pass bs m p (low is_map p here w) w.long (λ _. 0) 0 (drop_in (book_in bs p)) refl s.tables S' P.Bare (Dropped n) d.0 d.1)
+        met_one ordered s (Release p) clear w.pass bs m p (low is_map p here w) w.long (λ _. 0) 0 (drop_in (book_in bs p)) refl s.tables S' P.Bare (Dropped n) d.0 d.1)
 
     pub released_not : (S' : Stock) (f : Fault) (e : Code) → ReleasesIn compares s.tables s.stock S' here (Err f) → Performs compares (Release p) s (with_places s.tables S' s.places) (Err e)
     unfolding ReleasesIn
@@ -196,7 +196,7 @@ module _ {K V : Type 0} {compares : K → K → Ordering} (ordered : Ordered com
         passed compares (Step p d) s _ fit w.pass (Ok (Handed x)) refl (λ _. refl) (λ n. absurd (false≢true n)) refl
         (λ bs m.
         let a = i (book_in bs p) (ready is_walk p (P.Walk u) w bs m) in
-        met_one ordered s (Step p d) w.pass bs m p (low is_walk p (P.Walk u) w) w.long (λ _. 0) 0 (step_in d (book_in bs p)) refl s.tables S' after (Handed x) a.0 a.1)
+        met_one ordered s (Step p d) clear w.pass bs m p (low is_walk p (P.Walk u) w) w.long (λ _. 0) 0 (step_in d (book_in bs p)) refl s.tables S' after (Handed x) a.0 a.1)
 
     pub stepped_not : (d : Side) (S' : Stock) (f : Fault) (e : Code) → e ≡ fault_code f → StepsIn compares s.tables s.stock S' u d (Err f) → Performs compares (Step p d) s (with_places s.tables S' s.places) (Err e)
     unfolding StepsIn
@@ -204,7 +204,7 @@ module _ {K V : Type 0} {compares : K → K → Ordering} (ordered : Ordered com
         passed compares (Step p d) s _ fit w.pass (Err e) refl (λ _. refl) (λ n. absurd (false≢true n)) refl
         (λ bs m.
         let a = i (book_in bs p) (ready is_walk p (P.Walk u) w bs m) in
-        met_declined ordered s (Step p d) w.pass bs m _ (same_state s.tables S' a.1) p (λ _. 0) 0 (step_in d (book_in bs p)) refl e (a.0 ∙ ap (λ y. (Err y, book_in bs p)) (sym z)))
+        met_declined ordered s (Step p d) clear w.pass bs m _ (same_state s.tables S' a.1) p (λ _. 0) 0 (step_in d (book_in bs p)) refl e (a.0 ∙ ap (λ y. (Err y, book_in bs p)) (sym z)))
 
     pub closed_done : (S' : Stock) (n : ℕ) → ClosesIn compares s.tables s.stock S' u (Ok n) → Performs compares (Close p) s (with_places s.tables S' (slice_set s.places p P.Bare)) (Ok (Dropped n))
     unfolding ClosesIn
@@ -212,7 +212,7 @@ module _ {K V : Type 0} {compares : K → K → Ordering} (ordered : Ordered com
         passed compares (Close p) s _ fit w.pass (Ok (Dropped n)) refl (λ _. refl) (λ n. absurd (false≢true n)) refl
         (λ bs m.
         let d = i (book_in bs p) (ready is_walk p (P.Walk u) w bs m) in
-        met_one ordered s (Close p) w.pass bs m p (low is_walk p (P.Walk u) w) w.long (λ _. 0) 0 (drop_in (book_in bs p)) refl s.tables S' P.Bare (Dropped n) d.0 d.1)
+        met_one ordered s (Close p) clear w.pass bs m p (low is_walk p (P.Walk u) w) w.long (λ _. 0) 0 (drop_in (book_in bs p)) refl s.tables S' P.Bare (Dropped n) d.0 d.1)
 
     pub closed_not : (S' : Stock) (f : Fault) (e : Code) → ClosesIn compares s.tables s.stock S' u (Err f) → Performs compares (Close p) s (with_places s.tables S' s.places) (Err e)
     unfolding ClosesIn
@@ -228,7 +228,7 @@ module _ {K V : Type 0} {compares : K → K → Ordering} (ordered : Ordered com
     reads = λ _. refl;
     asks = λ _. refl;
     audits = λ _ _. (b, refl, d);
-    meets = λ _ q bs m. met_same ordered s Audit q bs m s refl (λ _. 0) 0 (Ok (Audited b)) (ap (λ x. outcome (Ok (Audited x)) bs) (sym (d.1 (bs, m))));
+    meets = λ _ q bs m. met_same ordered s Audit clear q bs m s refl (λ _. 0) 0 (Ok (Audited b)) (ap (λ x. outcome (Ok (Audited x)) bs) (sym (d.1 (bs, m))));
   }
 
 pub fit_of : {K V : Type 0} (s : State K V) → Fits (length s.tables.heads) (length s.tables.keys) (length s.tables.values) × (s.size ≡ length s.tables.heads) → Fit s

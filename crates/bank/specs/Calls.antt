@@ -3,7 +3,7 @@
 --   told f r         the answer of a call as a value, or the number of its refusal with the values that go with it
 --   Met              on books that model the bank: it models other books, those that the rule of the call gives, with the answer that the rule
 --                    gives. This means for the lists what the call of an ordered map means. A refusal leaves the
---                    state as it was, and is never for a breach. Over every run up to here the entries come out even
+--                    state as it was, and is never for a breach. Over every run up to here the entries come out even. No barred node is written to
 --   Reads c          the call changes no table
 --   Asks c           the call changes nothing at all
 --   Audits c         the call is an audit; it answers whether the bank is in good form
@@ -11,6 +11,7 @@
 --   Performs         all this; and of any content: calls that the checks of tables and places refuse are refused, and nothing has changed
 use Rattle.std.specs.Prelude.{◌≡◌, ℕ, Bool, true, false, Decides, List, [], ◌∷◌, length, Some, None, Ok, Err, Result}
 use Rattle.std.specs.declared.cmp.Ordering.{Ordering}
+use Rattle.node.specs.Balance.{Spared}
 use Rattle.books.specs.declared.places.Place.{Place}
 use Rattle.books.specs.declared.places.Place.TheVariants as P
 use Rattle.books.specs.declared.calls.Answer.{Answer}
@@ -54,6 +55,7 @@ pub record Met {K V : Type 0} (compares : K → K → Ordering) (c : Asked K V) 
   pub runs : (past : List (Event K V)) → Runs compares past s.stock bs → Runs compares (event c r ∷ past) s'.stock books
   pub even : (past : List (Event K V)) → Runs compares past s.stock bs → Even (event c r ∷ past) books
   pub low : Low books
+  pub spared : Spared s.tables s'.tables s.stock
   pub declined : (e : Code) → r ≡ Err e → s' ≡ s
   pub numbered : (e : Code) → r ≡ Err e → Numbered e
 

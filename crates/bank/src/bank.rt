@@ -16,6 +16,8 @@ use node::head::Head;
 use node::tables::Tables;
 use order::keys::{KeyOrder, Placing, PointQuery, Query};
 use supply::Supply;
+use supply::callers::Caller;
+use supply::shares::Shares;
 
 /// How many entries a place has.
 fn count_in(place: Place) -> usize
@@ -52,7 +54,7 @@ impl<S: Supply> Bank<S> {
     ghost use Rattle.books.specs.Places.{NamedPlace};
 
     /// Refuses tables that do not fit together, or are not of the bank's size.
-    fn fit(&self, heads: usize, keys: usize, values: usize) -> Result<(), Refusal>
+    pub fn fit(&self, heads: usize, keys: usize, values: usize) -> Result<(), Refusal>
         ensures { FitsBank self.now.size heads keys values result }
     {
         fit(heads, keys, values)?;
@@ -71,7 +73,7 @@ impl<S: Supply> Bank<S> {
 
     /// A bank over a supply, without tables and with bare places: it is to be laid out first.
     pub fn new(supply: S) -> Bank<S>
-        ensures { (result.size ≡ 0) × (result.register.places ≡ replicate 16 Place.Bare) × (S.stock result.supply ≡ S.stock supply) }
+        ensures { (result.size ≡ 0) × (result.register.places ≡ replicate 16 Place.Bare) × (result.supply ≡ supply) }
     {
         Bank {
             size: 0,
@@ -119,7 +121,8 @@ impl<S: Supply> Bank<S> {
         keys: &[K],
         values: &[V],
     ) -> Result<(), Refusal>
-        ensures { LaysOut K.KeyOrder.compares (state_of S.stock self.old (tables heads.now keys.now values.now)) (state_of S.stock self.new (tables heads.now keys.now values.now)) (coded result) }
+        ensures lays_out { LaysOut K.KeyOrder.compares (state_of S.stock self.old (tables heads.now keys.now values.now)) (state_of S.stock self.new (tables heads.now keys.now values.now)) (coded result) }
+        ensures supply { self.new.supply ≡ self.old.supply }
     {
         fit(heads.len(), keys.len(), values.len())?;
         if !self.unused(heads.len()) {
@@ -337,5 +340,33 @@ impl<S: Supply> Bank<S> {
             values,
         };
         Ok(audit(&tables, self.size, &self.register, &self.supply))
+    }
+}
+
+impl<S: Supply> Bank<Shares<S>> {
+    ghost use Rattle.std.specs.Prelude.{◌≡◌, ◌<◌, ℕ};
+    ghost use Rattle.supply.specs.Callers.{caller_number};
+    ghost use Rattle.supply.specs.Shares.{share_for};
+
+    /// Serves a caller, whose register is given. Answers the register of the one that was served.
+    pub fn turn(&mut self, caller: Caller, register: Register) -> Register
+        ensures size { self.new.size ≡ self.old.size }
+        ensures register { self.new.register ≡ register }
+        ensures answered { result ≡ self.old.register }
+        ensures caller { self.new.supply.caller ≡ caller }
+        ensures below { self.new.supply.below ≡ self.old.supply.below }
+        ensures kept { let s = self.old.supply in let t = self.new.supply in (n : ℕ) → n < 2 → share_for (S.stock t.below) t.size (caller_number t.caller) t.served.limit t.served.marks t.other.limit t.other.marks n ≡ share_for (S.stock s.below) s.size (caller_number s.caller) s.served.limit s.served.marks s.other.limit s.other.marks n }
+    {
+        self.supply.turn(caller);
+        let resting = self.register;
+        self.register = register;
+        resting
+    }
+
+    /// The caller that is served.
+    pub fn caller(&self) -> Caller
+        ensures { result ≡ self.now.supply.caller }
+    {
+        self.supply.caller()
     }
 }

@@ -11,7 +11,7 @@ use order::keys::{KeyOrder, Placing, PointQuery, Query};
 use supply::Supply;
 
 /// The lesser of two numbers.
-fn lesser(a: usize, b: usize) -> usize
+pub fn lesser(a: usize, b: usize) -> usize
     ensures { Lesser result a b }
 {
     if a < b { a } else { b }

@@ -4,7 +4,7 @@
 --   told_by v x      the answer x where the verdict is 0, else the refusal
 --   Refuses v c      the verdict is the refusal c
 --   not_a_bank       the verdict where the fields are not those of a bank
-use Rattle.std.specs.Prelude.{◌≡◌, ◌<◌, ◌≤◌, Bool, cond, nat_eq, [], ◌∷◌, Some, None, Ok, Err, Option, Result}
+use Rattle.std.specs.Prelude.{◌≡◌, ◌<◌, Bool, cond, nat_eq, [], ◌∷◌, Some, None, Ok, Err, Option, Result}
 use Rattle.books.specs.Refusals.{Code}
 use Rattle.bank_c.specs.declared.replies.Verdict.{Verdict}
 
@@ -18,9 +18,9 @@ abbrev pub told_by : {X : Type 0} → Verdict → X → Result X Code
 told_by v x = cond (nat_eq v.code 0) (Ok x) (Err (declined v))
 
 abbrev pub not_a_bank : Verdict
-not_a_bank = record { code = 7; needed = 0; allowance = 0 }
+not_a_bank = record { code = 65535; needed = 0; allowance = 0 }
 
 pub record Refuses (v : Verdict) (c : Code) : Type 0 where
   pub some : 0 < v.code
-  pub most : v.code ≤ 6
+  pub most : v.code < 65535
   pub code_is : declined v ≡ c

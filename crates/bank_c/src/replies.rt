@@ -1,6 +1,6 @@
 //! What the calls answer, as plain fields.
 
-ghost use Rattle.std.specs.Prelude.{◌≡◌, ◌≤◌};
+ghost use Rattle.std.specs.Prelude.{◌≡◌, ◌<◌};
 ghost use Rattle.bank_c.specs.Replies.{optional};
 
 use books::refusals::Refusal;
@@ -33,7 +33,7 @@ impl Verdict {
 
     /// The fields are not those of a bank.
     pub const NOT_A_BANK: Verdict = Verdict {
-        code: 7,
+        code: 65535,
         needed: 0,
         allowance: 0,
     };
@@ -56,7 +56,7 @@ impl Verdict {
     /// Of a call that answers only that it was done.
     pub(crate) fn of(answer: Result<(), Refusal>) -> Verdict
         ensures done { told_by result tt ≡ coded answer }
-        ensures known { result.code ≤ 6 }
+        ensures known { result.code < 65535 }
         ensures opened { told_by result Opened ≡ told {K = Key} {V = ℕ} opened answer }
     {
         match answer {
@@ -105,7 +105,7 @@ impl InsertReply {
     /// What the bank answered.
     pub(crate) fn of(answer: Result<Option<u32>, Refusal>) -> InsertReply
         ensures told { told_by result.verdict (Inserted (optional result.replaced result.old)) ≡ told {K = Key} Inserted answer }
-        ensures known { result.verdict.code ≤ 6 }
+        ensures known { result.verdict.code < 65535 }
     {
         match answer {
             Ok(value) => {
@@ -153,7 +153,7 @@ impl LookupReply {
     /// What the bank answered.
     pub(crate) fn of(answer: Result<(Option<u32>, usize), Refusal>) -> LookupReply
         ensures told { told_by result.verdict (Found (optional result.found result.value) result.comparisons) ≡ told {K = Key} found answer }
-        ensures known { result.verdict.code ≤ 6 }
+        ensures known { result.verdict.code < 65535 }
     {
         match answer {
             Ok((value, comparisons)) => {
@@ -195,7 +195,7 @@ impl CountReply {
     /// What the bank answered.
     pub(crate) fn of(answer: Result<usize, Refusal>) -> CountReply
         ensures told { (f : ℕ → Answer Key ℕ) → told_by result.verdict (f result.count) ≡ told f answer }
-        ensures known { result.verdict.code ≤ 6 }
+        ensures known { result.verdict.code < 65535 }
     {
         match answer {
             Ok(count) => CountReply {
@@ -240,7 +240,7 @@ impl CutReply {
     /// What the bank answered.
     pub(crate) fn of(answer: Result<(usize, usize, usize), Refusal>) -> CutReply
         ensures told { told_by result.verdict (Parted result.left result.right result.comparisons) ≡ told {K = Key} {V = ℕ} counts answer }
-        ensures known { result.verdict.code ≤ 6 }
+        ensures known { result.verdict.code < 65535 }
     {
         match answer {
             Ok((left, right, comparisons)) => CutReply {
@@ -285,7 +285,7 @@ impl StepReply {
     /// What the bank answered.
     pub(crate) fn of(answer: Result<Option<(BlendNumber, u32)>, Refusal>) -> StepReply
         ensures told { told_by result.verdict (Handed (optional result.handed (blend result.key, result.value))) ≡ told Handed answer }
-        ensures known { result.verdict.code ≤ 6 }
+        ensures known { result.verdict.code < 65535 }
     {
         match answer {
             Ok(Some((key, value))) => StepReply {
@@ -333,7 +333,7 @@ impl AuditReply {
     /// What the bank answered.
     pub(crate) fn of(answer: Result<bool, Refusal>) -> AuditReply
         ensures told { told_by result.verdict (Audited result.good) ≡ told {K = Key} {V = ℕ} Audited answer }
-        ensures known { result.verdict.code ≤ 6 }
+        ensures known { result.verdict.code < 65535 }
     {
         match answer {
             Ok(good) => AuditReply {

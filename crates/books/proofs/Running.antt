@@ -26,14 +26,14 @@ module _ {K V : Type 0} (compares : K → K → Ordering) where
       (λ (l : length bs ≤ p). low_book bare tt h t (sym (get_or_past bs p bare l) ∙ q))
       (cases_lt p (length bs))
 
-  abbrev Standing : List (Event K V) → List (Book (K × V)) → Type 0
+  abbrev pub Standing : List (Event K V) → List (Book (K × V)) → Type 0
   Standing past bs = (length bs ≡ 16) × All (Sound compares) bs × Even past bs
 
-  bare_stand : Standing [] (replicate 16 bare)
+  pub bare_stand : Standing [] (replicate 16 bare)
   bare_stand = (refl, All-replicate (Sound compares) 16 bare tt, refl)
 
   module _ (ordered : Ordered compares) where
-    next_stands : (ev : Event K V) (past : List (Event K V)) (S S' : Stock) (bs bs' : List (Book (K × V))) → Next compares ev S bs S' bs' → Standing past bs → Standing (ev ∷ past) bs'
+    pub next_stands : (ev : Event K V) (past : List (Event K V)) (S S' : Stock) (bs bs' : List (Book (K × V))) → Next compares ev S bs S' bs' → Standing past bs → Standing (ev ∷ past) bs'
     next_stands ev past S S' bs bs' n s =
         let o : Outcome K V = rule compares n.fresh n.top S.allowance ev.call bs in
         let books_are : o.books ≡ bs' = sym (ap (λ x. x.books) n.by_rule) in

@@ -1,12 +1,13 @@
 -- The number of a refusal, and the values that go with it.
 use Rattle.std.specs.Prelude.{ℕ, List, [], ◌∷◌}
 use Rattle.books.specs.declared.refusals.Refusal.{Refusal}
-use Rattle.books.specs.declared.refusals.Refusal.TheVariants.{Tables, Supply, Place, Kind, Breach, Short}
+use Rattle.books.specs.declared.refusals.Refusal.TheVariants.{Caller, Tables, Supply, Place, Kind, Breach, Short}
 
 abbrev pub Code : Type 0
 Code = ℕ × List ℕ
 
 abbrev pub code : Refusal → Code
+code Caller = (10, [])
 code Tables = (1, [])
 code Supply = (2, [])
 code Place = (3, [])

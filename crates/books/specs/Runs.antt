@@ -29,6 +29,7 @@ pub record Next {K V : Type 0} (compares : K → K → Ordering) (ev : Event K V
   pub by_rule : outcome ev.answer bs' ≡ rule compares fresh top S.allowance ev.call bs
   pub size : size_of S' ≡ size_of S
   pub allowance : S'.allowance + outs_of S' ≡ S.allowance + outs_of S
+  pub aside : S'.aside ≡ S.aside
 
 unfoldable pub Runs : {K V : Type 0} → (K → K → Ordering) → List (Event K V) → Stock → List (Book (K × V)) → Type 0
 Runs compares [] S bs = bs ≡ replicate 16 bare

@@ -7,6 +7,8 @@ use supply::Fault;
 /// The reasons, in the order in which they are checked.
 #[derive(Clone, Copy, PartialEq, Eq, Debug)]
 pub enum Refusal {
+    /// There is no such caller.
+    Caller,
     /// The tables do not fit together, or are not of the bank's size.
     Tables,
     /// The supply is of another size than the tables, or a number is out.
@@ -30,6 +32,7 @@ impl Refusal {
         ensures { result ≡ (code self).0 }
     {
         match self {
+            Refusal::Caller => 10,
             Refusal::Tables => 1,
             Refusal::Supply => 2,
             Refusal::Place => 3,

@@ -20,7 +20,7 @@ use Rattle.node.specs.Laws.{occurs, below, same}
 use Rattle.node.specs.Balance.{mark, Beside}
 use Rattle.node.specs.Operations.{MovesSuffix}
 use Rattle.node.proofs.Adopts.{times_append}
-use Rattle.node.proofs.Balances.{mark_most, balanced_none, beside_both, beside_more, beside_changed, beside_holds, beside_sized}
+use Rattle.node.proofs.Balances.{mark_most, guard_most, balanced_none, beside_both, beside_more, beside_changed, beside_holds, beside_sized}
 use Rattle.node.proofs.Frames.{height_suc, holds_node, holds_leaf, holds_fan, holds_linked, holds_kids, holds_kid, holds_from, holds_from_leaf, linked_append, linked_parts, node_same, linked_same, all_kept}
 use Rattle.node.proofs.Numbers.{same_self, same_other, same_at, occurs_parts, occurs_mk, tops_occur}
 use Rattle.node.proofs.Runs.{edge_is}
@@ -129,7 +129,7 @@ module _ {K V : Type 0} (place : K → Ordering) (T T₁ : Tables K V) (S : Stoc
         left_link = d.4.links (number t) refl;
         right_link = d.4.links (fresh 0) refl;
         beside = beside_changed T T₁ S (λ x. occurs x zero t + occurs x zero (spine {E = K × V} fresh zero)) (fresh 0 ∷ number t ∷ []) [] d.4
-            (λ x l. omega (arith, f x, mark_most S x)) (λ x l. refl);
+            (λ x l. omega (arith, f x, guard_most S x)) (λ x l. refl);
       }
 
 -- ---- above the leaves
@@ -210,7 +210,7 @@ module _ {K V : Type 0} (T : Tables K V) (S : Stock) (fresh : ℕ → ℕ) (h : 
     f₁ x = same x n + (same x m + times x ls)
 
     one : Beside T T₁ S f₁
-    one = beside_changed T T₁ S f₁ (n ∷ m ∷ []) ls changed (λ x l. omega (arith, mark_most S x)) (λ x l. omega (arith, mark_most S x))
+    one = beside_changed T T₁ S f₁ (n ∷ m ∷ []) ls changed (λ x l. omega (arith, guard_most S x)) (λ x l. omega (arith, guard_most S x))
 
     pub sized_below : Sized T₁
     sized_below = beside_sized T T₁ S f₁ one sized

@@ -7,11 +7,11 @@ use Rattle.node.specs.declared.head.Head.{Head}
 use Rattle.node.specs.Shape.{Tree, number, mk}
 use Rattle.node.specs.Store.{Tables, tables, Node, Linked, Holds, Changed, head_in, times}
 use Rattle.node.specs.Laws.{occurs, below, same}
-use Rattle.node.specs.Balance.{mark, Balanced}
+use Rattle.node.specs.Balance.{mark, guard, Balanced}
 use Rattle.node.specs.Levels.{new_leaf, push_level}
 use Rattle.node.proofs.Numbers.{same_self, same_other, occurs_parts, occurs_below, occurs_mk}
 use Rattle.node.proofs.Frames.{holds_node, holds_from, holds_from_leaf, frame_changed}
-use Rattle.node.proofs.Balances.{mark_most, mark_unused, balanced_both, balanced_as, balanced_given, beside_both, beside_changed}
+use Rattle.node.proofs.Balances.{mark_most, guard_most, bar_none, mark_unused, balanced_both, balanced_as, balanced_given, beside_both, beside_changed}
 use Rattle.rules.proofs.Levels.{leaf_changed, leaf_node, leaf_root, push_changed, push_node, push_root, push_linked}
 use Rattle.parts.specs.Rules.{spine}
 use Rattle.cut.specs.Spine.{SpineTaken}
@@ -47,6 +47,10 @@ topped_off fresh h m l n = grind (arith, nat_tests)
 pub unmarked : (S : Stock) (n x : ℕ) → is_out S n ≡ false → 0 < mark S x → same x n ≡ 0
 unmarked S n x u l = same_other x n (λ (e : x ≡ n). let z : mark S x ≡ mark S n = ap (mark S) e in omega (arith, mark_unused S n u))
 
+-- a number that is taken is none that was out or is barred
+pub unguarded : (S S' : Stock) (n x : ℕ) → Given S S' n → 0 < guard S x → same x n ≡ 0
+unguarded S S' n x d l = same_other x n (λ (e : x ≡ n). let z : guard S x ≡ guard S n = ap (guard S) e in omega (arith, mark_unused S n d.unused, bar_none S n d.allowed))
+
 -- ---- tables and supply
 
 -- a tree of numbers that were taken stands in what is out
@@ -60,7 +64,7 @@ module _ {K V : Type 0} where
       let fresh : ℕ → ℕ = λ _. m in
       let e : spine {E = K × V} fresh zero ≡ mk m [] [] = spine_leaf fresh in
       let f : (x : ℕ) → times x (m ∷ []) ≡ same x m = λ x. omega arith in
-      let away : (x : ℕ) → 0 < mark S x → times x (m ∷ []) ≡ 0 = λ x l. omega (arith, unmarked S m x d.unused l) in
+      let away : (x : ℕ) → 0 < guard S x → times x (m ∷ []) ≡ 0 = λ x l. omega (arith, unguarded S S' m x d l) in
       record {
         fresh = fresh;
         top = ap number e;
@@ -147,12 +151,12 @@ module _ {K V : Type 0} where
             (balanced_both S S₁ S₂ (λ _. 0) (λ x. occurs x h low) (λ x. same x m + occurs x h low) w.balanced (balanced_given S₁ S₂ m (λ x. occurs x h low) d));
         beside = beside_both (tables H ks vs) T₁ T₂ S S₁ (λ _. 0) (λ x. occurs x h low) w.balanced w.beside
             (beside_changed T₁ T₂ S₁ (λ x. occurs x h low) (m ∷ []) (m ∷ c ∷ []) changed
-            (λ x l. omega (arith, unmarked S₁ m x d.unused (omega arith)))
-            (λ x l. omega (arith, unmarked S₁ m x d.unused (omega arith), beside_root x l)));
+            (λ x l. omega (arith, unguarded S₁ S₂ m x d (omega arith)))
+            (λ x l. omega (arith, unguarded S₁ S₂ m x d (omega arith), beside_root x l)));
         allowance = omega (arith, w.allowance, d.allowance);
       }
         where
-          beside_root : (x : ℕ) → occurs x h low < mark S₁ x → same x c ≡ 0
+          beside_root : (x : ℕ) → occurs x h low < guard S₁ x → same x c ≡ 0
           beside_root x l = same_other x c (λ (e : x ≡ c).
               let z : same x (number low) ≡ 1 = ap (same x) (w.top ∙ sym e) ∙ same_self x in
-              omega (arith, occurs_parts x h low, mark_most S₁ x))
+              omega (arith, occurs_parts x h low, guard_most S₁ x))

@@ -10,7 +10,7 @@ use Rattle.node.specs.Laws.{occurs, same}
 use Rattle.node.specs.Levels.{new_leaf, push_level}
 use Rattle.node.specs.Balance.{mark, Rooted, Balanced}
 use Rattle.node.proofs.Adopts.{times_append}
-use Rattle.node.proofs.Balances.{mark_most, mark_unused, balanced_as, balanced_given, beside_both, beside_more, beside_changed}
+use Rattle.node.proofs.Balances.{mark_most, guard_most, mark_unused, balanced_as, balanced_given, beside_both, beside_more, beside_changed}
 use Rattle.node.proofs.Frames.{all_kept}
 use Rattle.node.proofs.Numbers.{same_self, tops_occur, occurs_root}
 use Rattle.node.proofs.Weaves.{total_append, all_one, all_two}
@@ -74,11 +74,11 @@ module _ {K V : Type 0} (T T₁ T₂ : Tables K V) (S S' : Stock) (h m : ℕ) (e
               (λ z. omega (arith, occurs_held z h m (e ∷ []) (us ++ rs) v.fan.leaf, total_append (occurs z (h - 1)) us rs)) balance_given;
           beside = beside_both T T₁ T₂ S S' f (λ z. same z m + f z) balance_given
               (beside_changed T T₁ S f (m ∷ []) (m ∷ map number us) made
-              (λ z l. omega (arith, one_times z, balance_given.marks z, mark_most S' z))
-              (λ z l. omega (arith, tops z, balance_given.marks z, mark_most S' z)))
+              (λ z l. omega (arith, one_times z, balance_given.marks z, balance_given.bars z, guard_most S' z))
+              (λ z l. omega (arith, tops z, balance_given.marks z, balance_given.bars z, guard_most S' z)))
               (beside_changed T₁ T₂ S' (λ z. same z m + f z) (m ∷ []) (map number rs ++ []) done.2
-              (λ z l. omega (arith, one_times z, mark_most S' z))
-              (λ z l. omega (arith, tops_new z, mark_most S' z)));
+              (λ z l. omega (arith, one_times z, guard_most S' z))
+              (λ z l. omega (arith, tops_new z, guard_most S' z)));
           taken = given.allowance;
         },
       )

@@ -14,7 +14,7 @@ use Rattle.node.specs.Laws.{occurs, below, same}
 use Rattle.node.specs.Rules.{Grown, whole, parted, settle, swap}
 use Rattle.node.specs.Sorted.{index}
 use Rattle.node.specs.Balance.{mark, Owns, Balanced}
-use Rattle.node.proofs.Balances.{mark_most, balanced_both, balanced_as, beside_both, beside_more, beside_sized, beside_changed}
+use Rattle.node.proofs.Balances.{mark_most, guard_most, balanced_both, balanced_as, beside_both, beside_more, beside_sized, beside_changed}
 use Rattle.node.proofs.Frames.{height_suc, all_kept, linked_same}
 use Rattle.node.proofs.Tabled.{err_not_ok, ok_same}
 use Rattle.node.proofs.Numbers.{occurs_parts}
@@ -419,7 +419,7 @@ module _ {K V : Type 0} (place : (K × V) → Ordering) (T T' : Tables K V) (S :
             all = all_kept T T' (number t ∷ []) [] (h - 1) (kids t) q.2 (λ x p. omega (arith, count_held x, owns.owned x, mark_most S x)) (λ x p. refl) w.all;
           }));
           stock_same = refl;
-          beside = beside_changed T T' S (λ x. occurs x h t) (number t ∷ []) [] q.2 (λ x l. omega (arith, count_held x, mark_most S x)) (λ x l. refl);
+          beside = beside_changed T T' S (λ x. occurs x h t) (number t ∷ []) [] q.2 (λ x l. omega (arith, count_held x, guard_most S x)) (λ x l. refl);
           link = q.2.links (number t) refl;
         }
 

@@ -12,7 +12,7 @@ use Rattle.node.specs.Store.{Tables, Node, Linked, Holds, SameLink, numbers, tim
 use Rattle.node.specs.Laws.{occurs, below, same}
 use Rattle.node.specs.Rules.{Grown, whole, parted, settle, swap, put}
 use Rattle.node.specs.Sorted.{index}
-use Rattle.node.specs.Balance.{mark, Owns, Beside}
+use Rattle.node.specs.Balance.{mark, guard, Owns, Beside}
 use Rattle.node.proofs.Balances.{mark_most, beside_more}
 use Rattle.node.proofs.Frames.{height_suc, node_same, linked_same, frame_all}
 use Rattle.node.proofs.Numbers.{occurs_parts, same_self, same_other}
@@ -129,7 +129,7 @@ module _ {K V : Type 0} (T T₁ : Tables K V) (S : Stock) (h : ℕ) (t : Tree (K
   pub sum : (x : ℕ) → occurs x h t ≡ same x (number t) + (occ x (take i ks) + (occurs x (h - 1) (kid t i) + occ x (drop (suc i) ks)))
   sum x = omega (arith, occurs_at x h t up, total_around (occurs x (h - 1)) ks i (node 0 [] none) l)
 
-  pub root_apart : occurs (number t) (h - 1) (kid t i) < mark S (number t)
+  pub root_apart : occurs (number t) (h - 1) (kid t i) < guard S (number t)
   root_apart = omega (arith, sum (number t), same_self (number t), owns.owned (number t), mark_most S (number t))
 
   tops_linked : (x : ℕ) → 0 < times x (numbers t) → SameLink T T₁ x

@@ -9,9 +9,9 @@ use Rattle.node.specs.Operations.{Lies}
 use Rattle.node.specs.Store.{Tables, Sized, Holds, Changed, times}
 use Rattle.node.specs.Laws.{occurs, same}
 use Rattle.node.specs.Rules.{Grown, whole, parted, settle, put, swap}
-use Rattle.node.specs.Balance.{mark, Balanced}
+use Rattle.node.specs.Balance.{mark, guard, Balanced}
 use Rattle.node.proofs.Adopts.{times_append}
-use Rattle.node.proofs.Balances.{mark_most, balanced_none, balanced_as, balanced_given, beside_changed}
+use Rattle.node.proofs.Balances.{mark_most, guard_most, balanced_none, balanced_as, balanced_given, beside_changed}
 use Rattle.node.proofs.Numbers.{tops_occur, same_self}
 use Rattle.node.proofs.Weaves.{total_append}
 use Rattle.rules.specs.Held.{Held}
@@ -79,8 +79,8 @@ module _ {K V : Type 0} (T T' : Tables K V) (S : Stock) (h m i : ℕ) (e : K × 
         stem_is = refl;
         balance = balanced_as S S f f f (λ x. occurs x h (mk m (put i e es) (swap i new ks))) (λ x. omega (arith, count x)) (balanced_none S f);
         beside = beside_changed T T' S f (m ∷ []) (map number (coming new) ++ map number ws) held_in.2
-            (λ x l. omega (arith, mark_most S x, count_in x))
-            (λ x l. omega (arith, mark_most S x, count_in x, times_append x (map number (coming new)) (map number ws), tops_occur x (h - 1) (coming new), tops_occur x (h - 1) ws));
+            (λ x l. omega (arith, guard_most S x, count_in x))
+            (λ x l. omega (arith, guard_most S x, count_in x, times_append x (map number (coming new)) (map number ws), tops_occur x (h - 1) (coming new), tops_occur x (h - 1) ws));
         link = held_in.2.links m (omega (arith, owned m, mark_most S m, same_self m, count_in m, times_append m (map number (coming new)) (map number ws), tops_occur m (h - 1) (coming new), tops_occur m (h - 1) ws));
         taken = omega arith;
       }),
@@ -130,8 +130,8 @@ module _ {K V : Type 0} (T T' : Tables K V) (S : Stock) (h m i : ℕ) (e : K × 
     other : n ≡ m → ⊥
     other z = omega (arith, unused m, same_self m, ap (λ k. same m k) z)
 
-    away : (x : ℕ) → f x < mark S x → (same x n ≡ 0) × (f x ≡ 0)
-    away x l = (omega (arith, balance_given.marks x, mark_most S' x), omega (arith, mark_most S x))
+    away : (x : ℕ) → f x < guard S x → (same x n ≡ 0) × (f x ≡ 0)
+    away x l = (omega (arith, balance_given.marks x, balance_given.bars x, guard_most S' x), omega (arith, guard_most S x))
 
     -- what is to be shown, of the two halves
     module _ (ls rs' : List (K × V)) (lt rt : List (Tree (K × V))) (ns : List ℕ) (done : (r ≡ Ok x₆) × Held T' h m ls lt × Held T' h n rs' rt × Changed T T' (n ∷ m ∷ []) ns)

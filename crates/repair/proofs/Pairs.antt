@@ -15,7 +15,7 @@ use Rattle.node.specs.Rules.{merged, moved}
 use Rattle.parts.specs.Rules.{fill}
 use Rattle.node.specs.Balance.{mark, Beside}
 use Rattle.node.proofs.Adopts.{times_append}
-use Rattle.node.proofs.Balances.{mark_most, balanced_as, balanced_none, balanced_returned, beside_changed}
+use Rattle.node.proofs.Balances.{mark_most, guard_most, balanced_as, balanced_none, balanced_returned, beside_changed}
 use Rattle.node.proofs.Frames.{holds_node, holds_fan, holds_linked, holds_kids, holds_from, linked_parts, linked_append, linked_kept, all_kept}
 use Rattle.node.proofs.Numbers.{same_self, occurs_parts, occurs_mk, tops_occur}
 use Rattle.node.proofs.Tabled.{fan_at}
@@ -159,7 +159,7 @@ module _ {K V : Type 0} (T : Tables K V) (S : Stock) (h p i : ℕ) (us : List (K
 
     beside : Beside T T' S (λ x. occurs x (suc h) old)
     beside =
-        beside_changed T T' S (λ x. occurs x (suc h) old) bs ls c (λ x q. omega (arith, whole x, in-bs x, mark_most S x)) (λ x q. omega (arith, whole x, in-ls x, tops x, mark_most S x))
+        beside_changed T T' S (λ x. occurs x (suc h) old) bs ls c (λ x q. omega (arith, whole x, in-bs x, guard_most S x)) (λ x q. omega (arith, whole x, in-ls x, tops x, guard_most S x))
 
     pub same_link : SameLink T T' p
     same_link = c.links p (omega (arith, sum p, same_self p, in-ls p, tops p, mark_most S p))

@@ -12,7 +12,7 @@ use Rattle.node.specs.Laws.{occurs, below, same}
 use Rattle.node.specs.Balance.{mark, Owns, Rooted}
 use Rattle.node.specs.Levels.{pop_level}
 use Rattle.node.proofs.Adopts.{times_one, kept_by_set}
-use Rattle.node.proofs.Balances.{mark_most, mark_unused, balanced_as, balanced_returned, beside_changed}
+use Rattle.node.proofs.Balances.{mark_most, guard_most, mark_unused, balanced_as, balanced_returned, beside_changed}
 use Rattle.node.proofs.Frames.{height_suc, holds_node, holds_fan, holds_kid, frame_changed}
 use Rattle.node.proofs.Numbers.{same_self, occurs_parts}
 use Rattle.node.proofs.Runs.{edge_is}
@@ -150,7 +150,7 @@ module _ {K V : Type 0} (H : List Head) (ks : List K) (vs : List V) (S : Stock) 
           (λ x. omega (arith, sum x)) (balanced_returned S S₁ m (λ x. occurs x h k) given);
       beside = beside_changed T T₁ S (λ x. occurs x (suc h) t) [] (number k ∷ []) (pop_changed H ks vs (number k) child_in)
           (λ x l. refl)
-          (λ x l. omega (arith, sum x, occurs_parts x h k, mark_most S x));
+          (λ x l. omega (arith, sum x, occurs_parts x h k, guard_most S x));
     }
 
     taken_off : (T'' : Tables K V) (S'' : Stock) (r : Result NodeRef Fault) → FixesTop T₁ T'' S₁ S'' h (number k) r → suc h ≤ 5 → Topped T T'' S S'' (suc h) t (fix_top (suc h) t) r

@@ -1,8 +1,8 @@
 //! A day at the blending works: its batch books over a small supply of nodes.
 
-use crate::card::Tally;
+use crate::card::print_nodes;
 use crate::day::batch;
-use crate::lines::{Asked, Told};
+use crate::lines::{Asked, Told, print_line};
 use crate::works::{BatchCall, Works};
 use books::calls::Call;
 use books::refusals::Refusal;
@@ -12,13 +12,13 @@ use std::io;
 use supply::Supply;
 
 /// The batch book that the day begins with.
-const BATCHES: usize = 0;
+pub const BATCHES: usize = 0;
 
 /// Where the next day's batches go.
-const NEXT_DAY: usize = 1;
+pub const NEXT_DAY: usize = 1;
 
 /// The book of the trials.
-const TRIALS: usize = 2;
+pub const TRIALS: usize = 2;
 
 /// The most calls that are performed as one list.
 const MOST_CALLS: usize = 15;
@@ -27,7 +27,7 @@ const MOST_CALLS: usize = 15;
 const NO_BOOK: usize = 16;
 
 /// A batch is entered: the book, day and number of its stamp, its blend, grams and hopper.
-fn enter(
+pub fn enter(
     place: usize,
     (day, number): (u32, u16),
     (blend, grams, hopper): (u32, u32, u8),
@@ -40,7 +40,7 @@ fn enter(
 }
 
 /// A batch is looked up in a book.
-fn look_up(place: usize, (day, number): (u32, u16)) -> BatchCall {
+pub fn look_up(place: usize, (day, number): (u32, u16)) -> BatchCall {
     Call::Lookup {
         place,
         query: BatchStamp { day, number },
@@ -48,7 +48,7 @@ fn look_up(place: usize, (day, number): (u32, u16)) -> BatchCall {
 }
 
 /// Two days' batches. The twelfth is a late one, and splits the leaf; the last one but one corrects the second.
-fn bookings() -> [BatchCall; 15] {
+pub fn bookings() -> [BatchCall; 15] {
     [
         enter(BATCHES, (20774, 1), (17, 240000, 2)),
         enter(BATCHES, (20774, 2), (9, 85500, 1)),
@@ -127,7 +127,7 @@ fn closing() -> [BatchCall; 4] {
 }
 
 /// The books of the day, counted.
-fn counts() -> [BatchCall; 3] {
+pub fn counts() -> [BatchCall; 3] {
     [BATCHES, NEXT_DAY, TRIALS].map(|place| Call::Count { place })
 }
 
@@ -138,10 +138,7 @@ fn print_calls<S: Supply>(
     calls: &[BatchCall],
 ) -> io::Result<()> {
     for call in calls {
-        match works.perform(call) {
-            Ok(answer) => println!(rt; "  {}: {}", Asked(*call), Told(answer))?,
-            Err(refusal) => println!(rt; "  {}: {refusal}", Asked(*call))?,
-        }
+        print_line(rt, &Asked(*call), &works.perform(call).map(Told))?;
     }
     Ok(())
 }
@@ -181,8 +178,7 @@ fn perform_day<S: Supply>(works: &mut Works<S>) {
 fn print_card<S: Supply>(rt: &impl Print, kind: &str, works: &mut Works<S>) -> io::Result<()> {
     println!(rt; "Shift card, over a {kind}")?;
     print_calls(rt, works, &counts())?;
-    let tally = Tally::of(works.bank.supply());
-    println!(rt; "  nodes: size {}, {tally}", tally.size)
+    print_nodes(rt, works.bank.supply())
 }
 
 /// A day over the supply: what each call answers, and the card of the shift.

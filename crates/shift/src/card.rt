@@ -71,6 +71,12 @@ pub fn print_laid_in<S: Supply>(
     println!(rt; "  {kind} of {asked}: size {}, {tally}", tally.size)
 }
 
+/// Prints the counts of a supply, as the card of a shift has them.
+pub fn print_nodes<S: Supply>(rt: &impl Print, supply: &S) -> io::Result<()> {
+    let tally = Tally::of(supply);
+    println!(rt; "  nodes: size {}, {tally}", tally.size)
+}
+
 /// Runs the errands in turn, and prints what came of each and the counts after it.
 pub fn print_errands<S: Supply>(
     rt: &impl Print,

@@ -2,8 +2,9 @@
 
 use crate::works::{BatchAnswer, BatchCall};
 use books::calls::{Answer, Call};
+use books::refusals::Refusal;
 use node::ends::Side;
-use std::fmt;
+use std::{fmt, io};
 
 /// A call in writing.
 #[derive(Clone, Copy, PartialEq, Eq, Debug)]
@@ -12,6 +13,18 @@ pub struct Asked(pub BatchCall);
 /// An answer in writing.
 #[derive(Clone, Copy, PartialEq, Eq, Debug)]
 pub struct Told(pub BatchAnswer);
+
+/// Prints what was asked, and what it was answered or that it was refused.
+pub fn print_line<A: fmt::Display, T: fmt::Display>(
+    rt: &impl Print,
+    asked: &A,
+    answer: &Result<T, Refusal>,
+) -> io::Result<()> {
+    match answer {
+        Ok(told) => println!(rt; "  {asked}: {told}"),
+        Err(refusal) => println!(rt; "  {asked}: {refusal}"),
+    }
+}
 
 impl fmt::Display for Asked {
     fn fmt<W: fmt::Write>(&self, f: &mut fmt::Formatter<W>) -> fmt::Result {

@@ -6,6 +6,7 @@ mod blending;
 mod card;
 mod day;
 mod lines;
+mod tasting;
 mod works;
 
 use supply::bits::Bitmap;
@@ -18,5 +19,6 @@ fn main(rt: HostRuntime) -> anyhow::Result<()> {
     day::batches_by_stamp(&rt)?;
     day::doses_by_mark(&rt)?;
     day::last_batches_by_blend(&rt)?;
+    tasting::print_two_callers(&rt)?;
     Ok(())
 }

@@ -13,7 +13,8 @@ use supply::Supply;
 /// How many nodes the tables have.
 pub const NODES: usize = 5;
 
-const CELLS: usize = CAPACITY * NODES;
+/// How many keys and how many values the tables have.
+pub const CELLS: usize = CAPACITY * NODES;
 
 /// A call on a batch book.
 pub type BatchCall = Call<BatchStamp, BatchRecord, BatchStamp>;
@@ -22,16 +23,16 @@ pub type BatchCall = Call<BatchStamp, BatchRecord, BatchStamp>;
 pub type BatchAnswer = Answer<BatchStamp, BatchRecord>;
 
 /// What stands in a table before it is used.
-const NO_NODE: Head = Head {
+pub const NO_NODE: Head = Head {
     parent: NULL,
     place: 0,
     len: 0,
     edges: [NULL; 12],
 };
 
-const NO_STAMP: BatchStamp = BatchStamp { day: 0, number: 0 };
+pub const NO_STAMP: BatchStamp = BatchStamp { day: 0, number: 0 };
 
-const NO_BATCH: BatchRecord = BatchRecord {
+pub const NO_BATCH: BatchRecord = BatchRecord {
     blend: BlendNumber { number: 0 },
     grams: 0,
     hopper: 0,

@@ -3,3 +3,4 @@ pub mod Digits
 pub mod Bitmaps
 pub mod Chains
 pub mod Walked
+pub mod Sharing

@@ -5,19 +5,19 @@ use Rattle.std.proofs.lemmas.List.{get_or-set_same, get_or-set_other, set-set, s
 use Rattle.std.proofs.lemmas.List.Sums.{sum_by-cons, sum_by-set, count_by-le-length}
 use Rattle.std.proofs.lemmas.Bool.{both_ways, cases_lt}
 use Rattle.std.proofs.lemmas.Bool.Decides.{nat_tests}
-use Rattle.supply.specs.Stocks.{Stock, is_out, marked, counted, fresh, kept_size, Given, Returned}
+use Rattle.supply.specs.Stocks.{Aside, Stock, is_out, marked, counted, fresh, kept_size, Given, Returned}
 
 -- ---- any stock: for callers
 
-abbrev stock_of : List Bool → ℕ → Stock
-stock_of m n = record { marks = m; allowance = n }
+abbrev stock_of : List Bool → ℕ → Aside → Stock
+stock_of m n a = record { marks = m; allowance = n; aside = a }
 
-pub same_stock : (s t : Stock) → s.marks ≡ t.marks → s.allowance ≡ t.allowance → s ≡ t
-same_stock s t e f = ap (λ m. stock_of m s.allowance) e ∙ ap (stock_of t.marks) f
+pub same_stock : (s t : Stock) → s.marks ≡ t.marks → s.allowance ≡ t.allowance → s.aside ≡ t.aside → s ≡ t
+same_stock s t e f g = ap (λ m. stock_of m s.allowance s.aside) e ∙ ap (λ n. stock_of t.marks n s.aside) f ∙ ap (stock_of t.marks t.allowance) g
 
 -- a number given and then returned leaves the stock as it was
 pub undo : {s t u : Stock} {n : ℕ} → Given s t n → Returned t u n → u ≡ s
-undo {s} {t} {u} {n} g r = same_stock u s (r.marks ∙ g.undone) (omega (arith, r.allowance, g.allowance))
+undo {s} {t} {u} {n} g r = same_stock u s (r.marks ∙ g.undone) (omega (arith, r.allowance, g.allowance)) (r.aside ∙ g.aside)
 
 -- a number that is out stays so when another is given
 pub stays_out : {s t : Stock} {n : ℕ} → Given s t n → (k : ℕ) → is_out s k ≡ true → is_out t k ≡ true
@@ -26,7 +26,7 @@ stays_out {s} {t} {n} g k o = g.others k (λ e. both_ways false refl (sym g.unus
 -- ---- a stock whose marks are counted
 
 -- a number that is not out may be marked so
-set_unused : (m : List Bool) (n : ℕ) → slice_index_or m n false ≡ false → slice_set m n false ≡ m
+pub set_unused : (m : List Bool) (n : ℕ) → slice_index_or m n false ≡ false → slice_set m n false ≡ m
 set_unused m n h = ap (set m n) (sym h) ∙ set-get_or m n false
 
 pub marked_given : (m : List Bool) (n : ℕ) → n < length m → slice_index_or m n false ≡ false → marked (slice_set m n true) ≡ marked m + 1
@@ -40,7 +40,9 @@ counted_given m n h f =
     record {
       below = h;
       unused = f;
+      allowed = refl;
       marks = refl;
+      aside = refl;
       allowance = omega (arith, marked_given m n h f, length-set m n true, count_by-le-length (λ b. b) (slice_set m n true));
       size = length-set m n true;
       out = get_or-set_same m n true false h;
@@ -64,6 +66,8 @@ counted_returned m n f =
     record {
       was_out = f;
       marks = refl;
+      aside = refl;
+      allowed = refl;
       allowance = omega (arith, marked_returned m n f, length-set m n false, count_by-le-length (λ b. b) m);
       size = length-set m n false;
       unused = get_or-set_same m n false false (out_within m n f);
@@ -83,7 +87,7 @@ none_marked zero = refl
 none_marked (suc n) = sum_by-cons (λ b. cond b 1 0) false (replicate n false) ∙ zero-add (marked (replicate n false)) ∙ none_marked n
 
 pub counted_fresh : (n : ℕ) → counted (replicate n false) ≡ fresh n
-counted_fresh n = same_stock (counted (replicate n false)) (fresh n) refl (omega (arith, length-replicate n false, none_marked n))
+counted_fresh n = same_stock (counted (replicate n false)) (fresh n) refl (omega (arith, length-replicate n false, none_marked n)) refl
 
 pub all_false : (m : List Bool) (n : ℕ) → length m ≡ n → ((k : ℕ) → k < n → slice_index_or m k false ≡ false) → m ≡ replicate n false
 all_false [] zero e h = refl

@@ -1,5 +1,5 @@
 -- The law that both supplies owe: never more allowed than the size less what is out. Each impl cites one of these.
-use Rattle.std.specs.Prelude.{ℕ, ◌^◌, ◌<◌, ◌≤◌, Bool, List, length, take, nat_eq}
+use Rattle.std.specs.Prelude.{refl, ℕ, ◌^◌, ◌<◌, ◌≤◌, Bool, List, length, take, nat_eq}
 use Rattle.std.proofs.Common.{length-take, arith}
 use Rattle.std.proofs.lemmas.List.{length-map}
 use Rattle.std.proofs.lemmas.List.Sums.{count_by-le-length}
@@ -8,7 +8,7 @@ use Rattle.supply.specs.Rows.{link_marks, link_stock}
 use Rattle.supply.specs.Stocks.{counted, Sound}
 
 pub counted_sound : (m : List Bool) → length m < 2 ^ 16 → Sound (counted m)
-counted_sound m h = record { within = omega (arith, count_by-le-length (λ b. b) m); small = h }
+counted_sound m h = record { within = omega (arith, count_by-le-length (λ b. b) m); small = h; apart = λ n o. refl }
 
 -- the marks of words and of links are at most as many as the size
 pub bits_sound : (size : ℕ) (words : List ℕ) → size ≤ 4096 → Sound (bit_stock size words)

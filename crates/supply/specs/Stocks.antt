@@ -1,5 +1,7 @@
 -- What a supply means, and what its calls do to that.
---   Stock       one mark for each number below the size, true where the number is out; and the allowance, how many more may be taken
+--   Stock       one mark for each number below the size, true where the number is out; the allowance, how many more may be taken; and what stands aside
+--   Aside       what neither taking nor giving back changes: the marks of numbers that are barred, in several rows, and the terms of the supply
+--   is_barred    whether a number is barred: it is not out, and is never given
 --   size_of      how many numbers there are
 --   is_out       whether a number is out
 --   marked      how many of the marks are true
@@ -14,19 +16,34 @@
 --   TakenTwo    what `take_two` does: two numbers are given, or the call is refused
 --   Drained     what `drain` does
 -- Where nothing has changed, one equation says so: the stock after is the stock before.
-use Rattle.std.specs.Prelude.{◌≡◌, ℕ, ◌+◌, ◌-◌, ◌^◌, ◌<◌, ◌≤◌, Bool, true, false, cond, List, length, set, replicate, count_by, Result, MatchResult, ◌≢◌, nat_le, slice_index_or, slice_set}
+use Rattle.std.specs.Prelude.{◌≡◌, ℕ, ◌+◌, ◌-◌, ◌^◌, ◌<◌, ◌≤◌, Bool, true, false, cond, List, [], ◌∷◌, length, set, replicate, count_by, Result, MatchResult, ◌≢◌, nat_le, slice_index_or, slice_set}
 use Rattle.supply.specs.declared.faults.Fault.{Fault}
 use Rattle.supply.specs.declared.faults.Fault.TheVariants.{Breach, Short}
+
+pub record Aside : Type 0 where
+  pub barred : List (List Bool)
+  pub terms : List ℕ
 
 pub record Stock : Type 0 where
   pub marks : List Bool
   pub allowance : ℕ
+  pub aside : Aside
 
 abbrev pub size_of : Stock → ℕ
 size_of s = length s.marks
 
 abbrev pub is_out : Stock → ℕ → Bool
 is_out s n = slice_index_or s.marks n false
+
+abbrev pub barred_by : List (List Bool) → ℕ → Bool
+barred_by [] n = false
+barred_by (m ∷ ms) n = cond (slice_index_or m n false) true (barred_by ms n)
+
+abbrev pub is_barred : Stock → ℕ → Bool
+is_barred s n = barred_by s.aside.barred n
+
+abbrev pub nothing_aside : Aside
+nothing_aside = record { barred = []; terms = [] }
 
 abbrev pub marked : List Bool → ℕ
 marked marks = count_by (λ b. b) marks
@@ -35,10 +52,10 @@ abbrev pub outs_of : Stock → ℕ
 outs_of s = marked s.marks
 
 abbrev pub counted : List Bool → Stock
-counted marks = record { marks = marks; allowance = length marks - marked marks }
+counted marks = record { marks = marks; allowance = length marks - marked marks; aside = nothing_aside }
 
 abbrev pub fresh : ℕ → Stock
-fresh size = record { marks = replicate size false; allowance = size }
+fresh size = record { marks = replicate size false; allowance = size; aside = nothing_aside }
 
 abbrev pub kept_size : ℕ → ℕ
 kept_size size = cond (nat_le size 4096) size 0
@@ -46,6 +63,7 @@ kept_size size = cond (nat_le size 4096) size 0
 pub record Sound (s : Stock) : Type 0 where
   pub within : s.allowance + outs_of s ≤ size_of s
   pub small : size_of s < 2 ^ 16
+  pub apart : (n : ℕ) → is_out s n ≡ true → is_barred s n ≡ false
 
 -- ---- take
 
@@ -53,8 +71,10 @@ pub record Sound (s : Stock) : Type 0 where
 pub record Given (before after : Stock) (n : ℕ) : Type 0 where
   pub below : n < size_of before
   pub unused : is_out before n ≡ false
+  pub allowed : is_barred before n ≡ false
   pub marks : after.marks ≡ slice_set before.marks n true
   pub allowance : before.allowance ≡ after.allowance + 1
+  pub aside : after.aside ≡ before.aside
   -- these follow, and are here for callers
   pub size : size_of after ≡ size_of before
   pub out : is_out after n ≡ true
@@ -78,7 +98,9 @@ pub record Returned (before after : Stock) (n : ℕ) : Type 0 where
   pub was_out : is_out before n ≡ true
   pub marks : after.marks ≡ slice_set before.marks n false
   pub allowance : after.allowance ≡ before.allowance + 1
+  pub aside : after.aside ≡ before.aside
   -- these follow, and are here for callers
+  pub allowed : is_barred before n ≡ false
   pub size : size_of after ≡ size_of before
   pub unused : is_out after n ≡ false
   pub others : (k : ℕ) → (k ≢ n) → is_out after k ≡ is_out before k
@@ -109,6 +131,7 @@ pub record GivenTwo (before after : Stock) (m n : ℕ) : Type 0 where
   pub out_second : is_out after n ≡ true
   pub marks : after.marks ≡ slice_set (slice_set before.marks m true) n true
   pub allowance : before.allowance ≡ after.allowance + 2
+  pub aside : after.aside ≡ before.aside
 
 -- Fewer than two may be taken, the fault says how many, and nothing has changed.
 pub record RefusedTwo (before after : Stock) (fault : Fault) : Type 0 where
@@ -128,3 +151,4 @@ pub record Drained (before after : Stock) (r : ℕ) : Type 0 where
   pub size : size_of after ≡ size_of before
   pub kept : (k : ℕ) → is_out before k ≡ true → is_out after k ≡ true
   pub outs : outs_of after ≡ outs_of before + before.allowance
+  pub aside : after.aside ≡ before.aside

@@ -5,8 +5,10 @@ ghost use Rattle.std.specs.Prelude.{◌≡◌};
 ghost use Rattle.supply.specs.Stocks.{Stock, size_of, is_out, outs_of, kept_size, Sound, Taken, GivenBack, Spared, TakenTwo, Drained};
 
 pub mod bits;
+pub mod callers;
 pub mod faults;
 pub mod links;
+pub mod shares;
 
 pub use faults::Fault;
 

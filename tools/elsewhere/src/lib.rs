@@ -62,7 +62,7 @@ impl sys::Verdict {
                 needed: self.needed,
                 allowance: self.allowance,
             },
-            7 => Refusal::NotABank,
+            sys::NOT_A_BANK => Refusal::NotABank,
             code => unreachable!("the library answers no {code}"),
         })
     }

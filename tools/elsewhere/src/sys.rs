@@ -3,6 +3,9 @@
 pub const PLACES: usize = 16;
 pub const MOST_NODES: usize = 4096;
 
+/// The number of the refusal of fields that are not those of a bank.
+pub const NOT_A_BANK: u16 = 65535;
+
 #[repr(C)]
 #[derive(Clone, Copy, PartialEq, Eq, Debug)]
 pub struct Head {

@@ -12,14 +12,16 @@ returns-in_err-dropped g c =
     let s = state_of g.S.Supply.stock c.args.self.now (tables c.args.heads.now c.args.keys.now c.args.values.now) in
     let o = g.met.K.KeyOrder.ordered in
     let f = fit_of s c.in_ok-fit.ensures in
-    let w = asked_of o s f is_walk c.args.place (P.Walk c.in_ok-walk.walk) (c.in_ok-walk.ensures refl) in
+    let z = (g.met.S.Supply.sound c.args.self.now.supply).apart in
+    let w = asked_of o s f z is_walk c.args.place (P.Walk c.in_ok-walk.walk) (c.in_ok-walk.ensures refl) in
     let p = err_from_is_err_and c.from_residual-in_err-dropped.result c.from_residual-in_err-dropped.ensures.1 in
-    rw (p.1) (closed_not o s f c.args.place c.in_ok-walk.walk w _ _ _ c.in_err-dropped.ensures)
+    rw (p.1) (closed_not o s f z c.args.place c.in_ok-walk.walk w _ _ _ c.in_err-dropped.ensures)
 
 pub returns : goal.returns
 returns g c =
     let s = state_of g.S.Supply.stock c.args.self.now (tables c.args.heads.now c.args.keys.now c.args.values.now) in
     let o = g.met.K.KeyOrder.ordered in
     let f = fit_of s c.in_ok-fit.ensures in
-    let w = asked_of o s f is_walk c.args.place (P.Walk c.in_ok-walk.walk) (c.in_ok-walk.ensures refl) in
-    rw (c.set.ensures) (closed_done o s f c.args.place c.in_ok-walk.walk w _ c.in_ok-dropped.dropped c.in_ok-dropped.ensures)
+    let z = (g.met.S.Supply.sound c.args.self.now.supply).apart in
+    let w = asked_of o s f z is_walk c.args.place (P.Walk c.in_ok-walk.walk) (c.in_ok-walk.ensures refl) in
+    rw (c.set.ensures) (closed_done o s f z c.args.place c.in_ok-walk.walk w _ c.in_ok-dropped.dropped c.in_ok-dropped.ensures)

@@ -9,5 +9,6 @@ returns g c =
     let s = state_of g.S.Supply.stock c.args.self.now (tables c.args.heads.now c.args.keys.now c.args.values.now) in
     let o = g.met.K.KeyOrder.ordered in
     let f = fit_of s c.in_ok-fit.ensures in
-    let w = asked_of o s f (λ _. true) c.args.place c.in_ok-here.here c.in_ok-here.ensures in
-    counted_done o s f c.args.place c.in_ok-here.here w c.count_in.result c.count_in.ensures
+    let z = (g.met.S.Supply.sound c.args.self.now.supply).apart in
+    let w = asked_of o s f z (λ _. true) c.args.place c.in_ok-here.here c.in_ok-here.ensures in
+    counted_done o s f z c.args.place c.in_ok-here.here w c.count_in.result c.count_in.ensures

@@ -10,14 +10,16 @@ returns-in_err-after g c =
     let s = state_of g.S.Supply.stock c.args.self.now (tables c.args.heads.now c.args.keys.now c.args.values.now) in
     let o = g.met.K.KeyOrder.ordered in
     let f = fit_of s c.in_ok-fit.ensures in
-    let w = asked_of o s f is_map c.args.place c.in_ok-here.here c.in_ok-here.ensures in
+    let z = (g.met.S.Supply.sound c.args.self.now.supply).apart in
+    let w = asked_of o s f z is_map c.args.place c.in_ok-here.here c.in_ok-here.ensures in
     let p = err_from_is_err_and c.from_residual-in_err-after.result c.from_residual-in_err-after.ensures.1 in
-    rw (p.1) (inserted_not o s f c.args.place c.args.key c.args.value _ _ c.in_ok-here.here w _ _ p.2 c.in_err-after.ensures)
+    rw (p.1) (inserted_not o s f z c.args.place c.args.key c.args.value _ _ c.in_ok-here.here w _ _ p.2 c.in_err-after.ensures)
 
 pub returns : goal.returns
 returns g c =
     let s = state_of g.S.Supply.stock c.args.self.now (tables c.args.heads.now c.args.keys.now c.args.values.now) in
     let o = g.met.K.KeyOrder.ordered in
     let f = fit_of s c.in_ok-fit.ensures in
-    let w = asked_of o s f is_map c.args.place c.in_ok-here.here c.in_ok-here.ensures in
-    rw (c.set.ensures) (inserted_done o s f c.args.place c.args.key c.args.value _ _ c.in_ok-here.here w c.in_ok-after.after c.in_ok-after.old c.in_ok-after.ensures)
+    let z = (g.met.S.Supply.sound c.args.self.now.supply).apart in
+    let w = asked_of o s f z is_map c.args.place c.in_ok-here.here c.in_ok-here.ensures in
+    rw (c.set.ensures) (inserted_done o s f z c.args.place c.args.key c.args.value _ _ c.in_ok-here.here w c.in_ok-after.after c.in_ok-after.old c.in_ok-after.ensures)

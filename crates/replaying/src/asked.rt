@@ -1,0 +1,47 @@
+//! The desk that the arguments of a program ask for.
+
+use crate::desk::Desk;
+use crate::reply::Reply;
+use crate::shared_desk::SharedDesk;
+use anyhow::Context;
+use books::refusals::Refusal;
+use std::alloc::Global;
+use std::env::{self, Env};
+
+/// A bank with tables of its own.
+#[derive(Drop)]
+pub enum AskedDesk {
+    /// For one caller.
+    Single(Desk),
+    /// For two callers.
+    Shared(SharedDesk),
+}
+
+impl AskedDesk {
+    /// A bank of as many nodes as the first argument says, or 64: for two callers, with the limits that the second and the third say, where they
+    /// are there, and else for one.
+    pub fn asked<R: Env + AllocGlobal>(rt: &R) -> anyhow::Result<AskedDesk> {
+        let heap = rt.alloc();
+        let mut words = env::args(rt)?.skip(1);
+        let size = match words.next() {
+            Some(word) => word.parse::<u16>()?,
+            None => 64,
+        };
+        let Some(first) = words.next() else {
+            return Ok(AskedDesk::Single(Desk::new(heap, size)?));
+        };
+        let second = words
+            .next()
+            .context("the limit of the second caller is missing")?;
+        let desk = SharedDesk::new(heap, size, first.parse::<u16>()?, second.parse::<u16>()?)?;
+        Ok(AskedDesk::Shared(desk))
+    }
+
+    /// Does what a line asks for, or says why it was refused: an error where it asks for nothing.
+    pub fn perform(&mut self, text: &str) -> anyhow::Result<Result<Reply<'_>, Refusal>> {
+        match self {
+            AskedDesk::Single(desk) => Ok(desk.perform(&text.parse()?)),
+            AskedDesk::Shared(desk) => Ok(desk.perform(&text.parse()?)),
+        }
+    }
+}

@@ -1,0 +1,28 @@
+//! Performs a script of calls on a bank, of one caller or of two, and prints an answer a line: for comparison with the original map.
+#![tactic(auto)]
+
+mod asked;
+mod desk;
+mod path;
+mod reply;
+mod script;
+mod shape;
+mod shared_desk;
+mod tables;
+
+use asked::AskedDesk;
+use std::env::Env;
+use std::io::{BufRead, BufReader, Input};
+
+/// Performs the lines of the program's input, on the bank that its arguments ask for: as many nodes as the first says, and for two
+/// callers, by turns, where the limits of both follow. Ends with an error at a line that asks for nothing.
+pub fn replay<R: Env + AllocGlobal + Input + Print>(rt: &R) -> anyhow::Result<()> {
+    let mut desk = AskedDesk::asked(rt)?;
+    for text in BufReader::new(rt.alloc(), rt.reader())?.lines(rt.alloc()) {
+        match desk.perform(text?.as_str())? {
+            Ok(reply) => println!(rt; "{reply}")?,
+            Err(refusal) => println!(rt; "{refusal}")?,
+        }
+    }
+    Ok(())
+}

@@ -1,0 +1,61 @@
+//! What a line is answered, as the original's driver writes it.
+
+use crate::shape::Shape;
+use books::calls::Answer;
+use order::blend::BlendNumber;
+use std::fmt;
+
+/// What a call on books of blends answers.
+pub type BlendAnswer = Answer<BlendNumber, u32>;
+
+/// The answer to a line.
+#[derive(Clone, Copy)]
+pub enum Reply<'a> {
+    Answer(BlendAnswer),
+    Bare,
+    Tree(Shape<'a>),
+    /// How many entries are left, and what of the tree, if the walk has nodes.
+    Walk {
+        left: usize,
+        shape: Option<Shape<'a>>,
+    },
+    /// How many nodes are out, of two callers those of the one that is served.
+    Out(u16),
+    /// Another caller is served, or the same again.
+    Turned,
+}
+
+impl fmt::Display for Reply<'_> {
+    fn fmt<W: fmt::Write>(&self, f: &mut fmt::Formatter<W>) -> fmt::Result {
+        match self {
+            Reply::Answer(answer) => write_answer(f, *answer),
+            Reply::Bare => write!(f, "bare"),
+            Reply::Tree(shape) => write!(f, "{shape}"),
+            Reply::Walk { left, shape: None } => write!(f, "walk {left} bare"),
+            Reply::Walk {
+                left,
+                shape: Some(shape),
+            } => write!(f, "walk {left} {shape}"),
+            Reply::Out(count) => write!(f, "{count}"),
+            Reply::Turned => write!(f, "turned"),
+        }
+    }
+}
+
+/// Writes what a call answers.
+fn write_answer<W: fmt::Write>(f: &mut fmt::Formatter<W>, answer: BlendAnswer) -> fmt::Result {
+    match answer {
+        Answer::Inserted(None) => write!(f, "new"),
+        Answer::Inserted(Some(old)) => write!(f, "old {old}"),
+        Answer::Found(None, made) => write!(f, "none {made}"),
+        Answer::Found(Some(value), made) => write!(f, "{value} {made}"),
+        Answer::Counted(count) => write!(f, "{count}"),
+        Answer::Parted(left, right, made) => write!(f, "{left} {right} {made}"),
+        Answer::Opened => write!(f, "open"),
+        Answer::Handed(None) => write!(f, "none"),
+        Answer::Handed(Some((key, value))) => write!(f, "{key} {value}"),
+        Answer::Dropped(count) => write!(f, "{count}"),
+        Answer::Audited(true) => write!(f, "yes"),
+        Answer::Audited(false) => write!(f, "no"),
+    }
+}

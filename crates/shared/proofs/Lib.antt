@@ -1,0 +1,3 @@
+mod Making
+mod Serving
+mod Standing

@@ -1,0 +1,71 @@
+-- Moves one after the other. Assumes nothing.
+use Rattle.std.proofs.Common.{◌≡◌, ℕ, ◌+◌, ◌<◌, List, [], ◌∷◌, ◌++◌, length, map, take, drop, set, get_or, Result, refl, sym, ap, ◌∙◌, subst, arith}
+use Rattle.std.proofs.lemmas.List.{take_more, take_more_set, drop-drop, drop-set-lt, map-append, reverse-append}
+use Rattle.std.specs.declared.cmp.Ordering.{Ordering}
+use Rattle.order.specs.Laws.{Ordered}
+use Rattle.books.specs.declared.calls.Answer.{Answer}
+use Rattle.books.specs.declared.calls.Call as Calls
+use Rattle.books.specs.declared.refusals.Refusal.{Refusal}
+use Rattle.books.specs.Refusals.{Code}
+use Rattle.books.specs.Rules.{Query, asked}
+use Rattle.books.specs.Runs.{event}
+use Rattle.bank.specs.Calls.{told, itself}
+use Rattle.bank.specs.Fitting.{coded}
+use Rattle.shared.specs.declared.moves.Move.{Move}
+use Rattle.shared.specs.declared.moves.Move.TheVariants.{LayOut, Turn, Call}
+use Rattle.shared.specs.declared.moves.Reply.{Reply}
+use Rattle.shared.specs.declared.moves.Reply.TheVariants as R
+use Rattle.shared.specs.SharedStates.{SharedState}
+use Rattle.shared.specs.Moves.{laid, turned, called, LaidOut, TurnsTo, Called, MakesAll}
+use Rattle.shared.specs.MoveLists.{AskedMove, asked_move, told_reply, replied, move_of, reply_of, MakesMove, Performed, first_moves, first_replies}
+use Rattle.shared.proofs.Standing.{all_stand}
+
+-- one move, from what its method says
+module _ {K V Q : Type 0} (compares : K → K → Ordering) (places : Q → Query K) (m : Move K V Q) (x : Result (Reply K V) Refusal) (d d' : SharedState K V) where
+  pub laid_made : (b : ℕ) (r : Result (Unit {0}) Refusal) → m ≡ LayOut → told_reply x ≡ replied (λ u. R.LaidOut) (coded r) → LaidOut compares b (coded r) d d' → MakesMove compares (asked_move places m) (told_reply x) d d'
+  laid_made b r e q l = record { moved = laid b (coded r); asked = ap (asked_move places) (sym e); told = sym q; made = l }
+
+  pub turned_made : (n : ℕ) (r : Result (Unit {0}) Refusal) → m ≡ Turn n → told_reply x ≡ replied (λ u. R.Turned) (coded r) → TurnsTo n d d' (coded r) → MakesMove compares (asked_move places m) (told_reply x) d d'
+  turned_made n r e q t = record { moved = turned n (coded r); asked = ap (asked_move places) (sym e); told = sym q; made = t }
+
+  pub called_made : (b : ℕ) (c : Calls.Call K V Q) (r : Result (Answer K V) Refusal) → m ≡ Call c → told_reply x ≡ replied R.Answered (told itself r) → Called compares b (event (asked places c) (told itself r)) d d'
+      → MakesMove compares (asked_move places m) (told_reply x) d d'
+  called_made b c r e q a = record { moved = called b (event (asked places c) (told itself r)); asked = ap (asked_move places) (sym e); told = sym q; made = a }
+
+module _ {K V : Type 0} {compares : K → K → Ordering} (ordered : Ordered compares) where
+  pub made_none : (d : SharedState K V) → Performed compares [] [] d d
+  unfolding MakesAll
+  made_none d = record { moves = []; asked = refl; told = refl; made = refl; stands = λ before w o. w }
+
+  pub made_more : (ms : List (AskedMove K V)) (rs : List (Result (Reply K V) Code)) (m : AskedMove K V) (r : Result (Reply K V) Code) (d d₁ d₂ : SharedState K V)
+      → Performed compares ms rs d d₁ → MakesMove compares m r d₁ d₂ → Performed compares (ms ++ m ∷ []) (rs ++ r ∷ []) d d₂
+  unfolding MakesAll
+  made_more ms rs m r d d₁ d₂ x y = record {
+    moves = y.moved ∷ x.moves;
+    asked = ap (λ a. a ∷ map move_of x.moves) y.asked ∙ ap (λ as'. m ∷ as') x.asked ∙ sym (reverse-append ms (m ∷ []));
+    told = ap (λ a. a ∷ map reply_of x.moves) y.told ∙ ap (λ as'. r ∷ as') x.told ∙ sym (reverse-append rs (r ∷ []));
+    made = (d₁, x.made, y.made);
+    stands = λ before w o. all_stand ordered (y.moved ∷ x.moves) before d d₂ w (d₁, x.made, y.made) o;
+  }
+
+-- what stands behind the replies that were put down
+pub rest_same : {X : Type 0} (n : ℕ) (xs ys : List X) (x : X) → drop n ys ≡ drop n xs → drop (n + 1) (set ys n x) ≡ drop (n + 1) xs
+rest_same n xs ys x e = drop-set-lt (n + 1) ys n x (omega arith) ∙ sym (drop-drop 1 n ys) ∙ ap (drop 1) e ∙ drop-drop 1 n xs
+
+-- one more of the first moves and of the first replies
+replies_more : {K V : Type 0} (n : ℕ) (rs : List (Result (Reply K V) Refusal)) (r : Result (Reply K V) Refusal) → n < length rs → first_replies (n + 1) (set rs n r) ≡ first_replies n rs ++ told_reply r ∷ []
+replies_more n rs r l = ap (map told_reply) (take_more_set rs n r l) ∙ map-append told_reply (take n rs) (r ∷ [])
+
+module _ {K V Q : Type 0} where
+  moves_more : (places : Q → Query K) (n : ℕ) (ms : List (Move K V Q)) (d : Move K V Q) → n < length ms → first_moves places (n + 1) ms ≡ first_moves places n ms ++ asked_move places (get_or ms n d) ∷ []
+  moves_more places n ms d l = ap (map (asked_move places)) (take_more ms n d l) ∙ map-append (asked_move places) (take n ms) (get_or ms n d ∷ [])
+
+  -- one move more, with its reply put down
+  pub listed_more : {compares : K → K → Ordering} (ordered : Ordered compares) (places : Q → Query K) (n : ℕ) (ms : List (Move K V Q)) (m : Move K V Q) (rs rs' : List (Result (Reply K V) Refusal)) (r : Result (Reply K V) Refusal) (d d₁ d₂ : SharedState K V)
+      → n < length ms → n < length rs → m ≡ get_or ms n m → rs' ≡ set rs n r → Performed compares (first_moves places n ms) (first_replies n rs) d d₁ → MakesMove compares (asked_move places m) (told_reply r) d₁ d₂
+      → Performed compares (first_moves places (n + 1) ms) (first_replies (n + 1) rs') d d₂
+  listed_more {compares} ordered places n ms m rs rs' r d d₁ d₂ l k q z a b =
+      subst (λ x. Performed compares (first_moves places (n + 1) ms) (first_replies (n + 1) x) d d₂) (sym z)
+      (subst (λ x. Performed compares x (first_replies (n + 1) (set rs n r)) d d₂) (sym (moves_more places n ms m l ∙ ap (λ y. first_moves places n ms ++ asked_move places y ∷ []) (sym q)))
+      (subst (λ x. Performed compares (first_moves places n ms ++ asked_move places m ∷ []) x d d₂) (sym (replies_more n rs r k))
+      (made_more ordered (first_moves places n ms) (first_replies n rs) (asked_move places m) (told_reply r) d d₁ d₂ a b)))

@@ -1,0 +1,5 @@
+pub mod MoveLists
+pub mod Moves
+pub mod SharedBanks
+pub mod SharedRuns
+pub mod SharedStates
