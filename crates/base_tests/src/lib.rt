@@ -2,6 +2,8 @@
 #![tactic(auto)]
 
 #[cfg(test)]
+mod choices;
+#[cfg(test)]
 mod keys_and_search;
 #[cfg(test)]
 mod nodes;

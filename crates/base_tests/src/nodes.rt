@@ -18,6 +18,8 @@ const FREE: Head = Head {
 
 const LEAF: Leaf = Leaf { node: 0 };
 
+const RIGHT_LEAF: Leaf = Leaf { node: 1 };
+
 const ROOT: Internal = Internal { node: 2, height: 1 };
 
 const TOP: NodeRef = NodeRef { node: 2, height: 1 };
@@ -105,6 +107,40 @@ fn neighbours_merge(rt: HostRuntime) -> Result<(), Fail> {
     Ok(())
 }
 
+/// Children of 6 and 5 entries have no room in one node: both stay, or the one of five is raised to six. Of 6 and 4 they have.
+#[test]
+fn neighbours_join_as_their_lengths_choose(rt: HostRuntime) -> Result<(), Fail> {
+    let mut heads = [FREE; 3];
+    let mut keys = [0u32; 33];
+    let mut values = [0u32; 33];
+    two_leaves(&rt, &mut heads, &mut keys, &mut values)?;
+    RIGHT_LEAF.insert_fit(&mut heads, &mut keys, &mut values, 4, 24, 240)?;
+    let kept = ROOT.join_children(&mut heads, &mut keys, &mut values, Side::First, 0)?;
+    assert_eq!(rt;
+        (kept, heads[0].len, heads[1].len, keys[22]),
+        ((0, None), 6, 5, 14)
+    );
+    let raised = ROOT.join_children(&mut heads, &mut keys, &mut values, Side::Last, 0)?;
+    assert_eq!(rt;
+        (raised, heads[0].len, heads[1].len, keys[22]),
+        ((1, None), 5, 6, 12)
+    );
+    assert_eq!(rt;
+        (keys[4], keys[11], values[11], keys[16]),
+        (10, 14, 140, 24)
+    );
+    let raised = ROOT.join_children(&mut heads, &mut keys, &mut values, Side::First, 0)?;
+    assert_eq!(rt;
+        (raised, heads[0].len, heads[1].len, keys[22]),
+        ((0, None), 6, 5, 14)
+    );
+    heads[1].len = 4;
+    let merged = ROOT.join_children(&mut heads, &mut keys, &mut values, Side::Last, 0)?;
+    assert_eq!(rt; (merged, heads[0].len, heads[2].len), ((0, Some(1)), 11, 0));
+    assert_eq!(rt; (keys[6], keys[7], values[10]), (14, 16, 220));
+    Ok(())
+}
+
 #[test]
 fn strange_tables_are_refused(rt: HostRuntime) {
     let mut heads = [FREE; 3];
@@ -125,6 +161,10 @@ fn strange_tables_are_refused(rt: HostRuntime) {
             .is_err()
     );
     assert!(rt; ROOT.merge(&mut heads, &mut keys, &mut values, 0).is_err());
+    assert!(rt;
+        ROOT.join_children(&mut heads, &mut keys, &mut values, Side::First, 0)
+            .is_err()
+    );
     assert!(rt; recalc_length(&heads, NodeRef { node: 0, height: 1 }).is_err());
     assert!(rt; recalc_length(&heads, NodeRef { node: 1, height: 6 }).is_err());
 }

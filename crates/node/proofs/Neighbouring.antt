@@ -1,10 +1,15 @@
 -- Two neighbours among the children of a node. Assumes nothing.
-use Rattle.std.proofs.Common.{◌≡◌, ℕ, ◌+◌, ◌≤◌, ◌⊎◌, List, ◌∷◌, ◌++◌, length, get_or, sym, ap, ◌∙◌, subst, ⊎_elim, arith, length-append}
+use Rattle.std.proofs.Common.{◌≡◌, ℕ, ◌+◌, ◌≤◌, ◌⊎◌, List, ◌∷◌, ◌++◌, length, get_or, Ok, Err, Option, Result, sym, ap, ◌∙◌, subst, ⊎_elim, arith, length-append}
+use Rattle.supply.specs.declared.faults.Fault.{Fault}
+use Rattle.node.specs.declared.choice.Choice.{Choice}
+use Rattle.node.specs.declared.ends.Side.{Side}
 use Rattle.node.specs.declared.rows.Pair.{Pair}
 use Rattle.node.specs.Store.{Tables, Sized, head_at}
 use Rattle.node.specs.Operations.{Pairs, Strange}
+use Rattle.node.specs.Neighbours.{PairedOf, JoinsAs, JoinsChildren}
+use Rattle.node.specs.Rules.{choice}
 use Rattle.node.proofs.Runs.{edge_is}
-use Rattle.node.proofs.Tabled.{not_strange}
+use Rattle.node.proofs.Tabled.{not_strange, ok_same, err_not_ok}
 
 module _ {K V : Type 0} (T : Tables K V) (p i l r : ℕ) (us : List (K × V)) (e : K × V) (ws es fs : List (K × V)) (as' bs ks ls : List ℕ) (q : Pairs T p i l r us e ws es fs as' bs ks ls) where
   pub left_edge : get_or (head_at T p).edges i 0 ≡ l
@@ -50,3 +55,17 @@ module _ {K V : Type 0} (T : Tables K V) (p i l r : ℕ) (us : List (K × V)) (e
 -- an edge read in the one is that of the other
 pub same_edge : {K V : Type 0} {T T' : Tables K V} (m i x : ℕ) → T ≡ T' → x ≡ get_or (head_at T m).edges i 0 → x ≡ get_or (head_at T' m).edges i 0
 same_edge m i x eq is = is ∙ ap (λ (t : Tables _ _). get_or (head_at t m).edges i 0) eq
+
+-- ---- joined by the choice for their lengths
+
+module _ {K V : Type 0} (s : Side) (T T' : Tables K V) (h p i : ℕ) where
+  -- what the choice for a pair that was read says is done with the children that the tables hold
+  pub joined_as : (q : Pair) (c : Choice) (res : Result (ℕ × Option ℕ) Fault) → q.idx ≡ i → PairedOf T p i (Ok q) → c ≡ choice s q.left_len q.right_len → JoinsAs c s T T' h p q.idx q.left q.right res → JoinsChildren s T T' h p i res
+  unfolding PairedOf JoinsChildren
+  joined_as q c res here held is did = λ l r us e ws es fs xs bs ks ls sized pairs.
+      let eq = ok_same _ _ (held l r us e ws es fs xs bs ks ls sized pairs) in
+      subst (λ (x : Pair). JoinsAs (choice s x.left_len x.right_len) s T T' h p i x.left x.right res) eq (subst (λ k. JoinsAs k s T T' h p i q.left q.right res) is (subst (λ j. JoinsAs c s T T' h p j q.left q.right res) here did))
+
+  pub joined_none : (f : Fault) (res : Result (ℕ × Option ℕ) Fault) → PairedOf T p i (Err f) → JoinsChildren s T T' h p i res
+  unfolding PairedOf JoinsChildren
+  joined_none f res held = λ l r us e ws es fs xs bs ks ls sized pairs. absurd (err_not_ok _ _ (held l r us e ws es fs xs bs ks ls sized pairs))

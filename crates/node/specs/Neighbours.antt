@@ -2,11 +2,20 @@
 --   Paired T p i q      q names node p, its entry at index i, and the two children beside it, with the lengths that stand in the tables
 --   HasRows xs q        a table of keys or of values has a row for each of the three, which are different; the entry stands in the parent's row
 --   PairedOf T p i r    where the tables hold such a parent and two children, r answers them
-use Rattle.std.specs.Prelude.{◌≡◌, ◌≢◌, ℕ, ◌+◌, ◌*◌, ◌<◌, ◌≤◌, List, ◌∷◌, ◌++◌, length, Ok, Result}
+--   Steals s            so many entries go over to the one at side s, through the entry between
+--   JoinsAs c           the two are merged, or so many entries go over, or nothing changes, as the choice c says. What is answered: the merged
+--                       one with the right one as left over; else the one at side s, with none left over
+--   JoinsChildren       so it is where the tables hold such a parent and two children, by the choice for the numbers of their entries
+use Rattle.std.specs.Prelude.{◌≡◌, ◌≢◌, ℕ, ◌+◌, ◌*◌, ◌<◌, ◌≤◌, List, ◌∷◌, ◌++◌, length, Some, None, Ok, Err, Option, Result}
 use Rattle.supply.specs.declared.faults.Fault.{Fault}
+use Rattle.node.specs.declared.choice.Choice.{Choice}
+use Rattle.node.specs.declared.choice.Choice.TheVariants.{Merge, Move, Leave}
+use Rattle.node.specs.declared.ends.Side.{Side}
+use Rattle.node.specs.declared.ends.Side.TheVariants.{First, Last}
 use Rattle.node.specs.declared.rows.Pair.{Pair}
 use Rattle.node.specs.Store.{Tables, Sized}
-use Rattle.node.specs.Operations.{Lies, Pairs}
+use Rattle.node.specs.Rules.{at_side, choice}
+use Rattle.node.specs.Operations.{Lies, Pairs, Merges, StealsLeft, StealsRight}
 
 pub record Paired {K V : Type 0} (T : Tables K V) (p i : ℕ) (q : Pair) : Type 0 where
   pub node_is : q.node ≡ p
@@ -35,3 +44,27 @@ unfoldable pub PairedOf : {K V : Type 0} → Tables K V → ℕ → ℕ → Resu
 PairedOf {K} {V} T p i res =
     (l r : ℕ) (us : List (K × V)) (e : K × V) (ws es fs : List (K × V)) (as' bs ks ls : List ℕ) → Sized T → Pairs T p i l r us e ws es fs as' bs ks ls
     → res ≡ Ok (record { node = p; idx = i; len = length (us ++ e ∷ ws); left = l; left_len = length es; right = r; right_len = length fs })
+
+abbrev pub Steals : {K V : Type 0} → Side → Tables K V → Tables K V → ℕ → ℕ → ℕ → ℕ → Result (Unit {0}) Fault → Type 0
+Steals First T T' h p i n res = StealsRight T T' h p i n res
+Steals Last T T' h p i n res = StealsLeft T T' h p i n res
+
+-- what is answered where they were merged, by what the merge answered
+abbrev pub merge_answer : Result (ℕ × ℕ) Fault → Result (ℕ × Option ℕ) Fault
+merge_answer (Ok y) = Ok (y.0, Some y.1)
+merge_answer (Err f) = Err f
+
+-- and where entries went over to child c
+abbrev pub steal_answer : ℕ → Result (Unit {0}) Fault → Result (ℕ × Option ℕ) Fault
+steal_answer c (Ok u) = Ok (c, None)
+steal_answer c (Err f) = Err f
+
+abbrev pub JoinsAs : {K V : Type 0} → Choice → Side → Tables K V → Tables K V → ℕ → ℕ → ℕ → ℕ → ℕ → Result (ℕ × Option ℕ) Fault → Type 0
+JoinsAs Merge s T T' h p i l r res = (m : Result (ℕ × ℕ) Fault) × Merges T T' h p i m × (res ≡ merge_answer m)
+JoinsAs (Move n) s T T' h p i l r res = (m : Result (Unit {0}) Fault) × Steals s T T' h p i n m × (res ≡ steal_answer (at_side s l r) m)
+JoinsAs Leave s T T' h p i l r res = (T' ≡ T) × (res ≡ Ok (at_side s l r, None))
+
+unfoldable pub JoinsChildren : {K V : Type 0} → Side → Tables K V → Tables K V → ℕ → ℕ → ℕ → Result (ℕ × Option ℕ) Fault → Type 0
+JoinsChildren {K} {V} s T T' h p i res =
+    (l r : ℕ) (us : List (K × V)) (e : K × V) (ws es fs : List (K × V)) (as' bs ks ls : List ℕ) → Sized T → Pairs T p i l r us e ws es fs as' bs ks ls
+    → JoinsAs (choice s (length es) (length fs)) s T T' h p i l r res

@@ -1,10 +1,14 @@
 -- What becomes of nodes as trees: an entry put into one, full or not, and two neighbours with the entry between them.
 --   Grown            one tree, or two with an entry between them
 --   settle           an entry at index i of a node, with `new` for the child there; a full node is split
---   Choice           what is done with two neighbours: merge them, move so many entries over, or leave them
---   choice s a b     which of these, by the lengths of the two alone, where the border is at side s
+--   at_side s x y    of two beside each other, the one at side s
+--   choice s a b     what is done with two neighbours of a and b entries, where the border is at side s
+--   ChoiceFor        what that is in words, by the entries of the border one and of its neighbour
+--   ChoiceAt         the same for the left and the right one, where the border is at side s
 --   joint            the two neighbours after that
-use Rattle.std.specs.Prelude.{ℕ, suc, ◌+◌, ◌-◌, cond, List, [], ◌∷◌, ◌++◌, length, take, drop, nat_le, nat_lt, slice_index_or}
+use Rattle.std.specs.Prelude.{◌≡◌, ℕ, suc, ◌+◌, ◌-◌, ◌<◌, ◌≤◌, cond, List, [], ◌∷◌, ◌++◌, length, take, drop, nat_le, nat_lt, slice_index_or}
+use Rattle.node.specs.declared.choice.Choice.{Choice}
+use Rattle.node.specs.declared.choice.Choice.TheVariants.{Merge, Move, Leave}
 use Rattle.node.specs.declared.ends.Side.{Side}
 use Rattle.node.specs.declared.ends.Side.TheVariants.{First, Last}
 use Rattle.node.specs.Shape.{Tree, number, row, kids, mk}
@@ -32,19 +36,24 @@ settle fresh m i es ks x new =
     (parted (mk m (put i x (take 6 es)) (swap i new (take 7 ks))) (slice_index_or es 6 x) (mk fresh (drop 7 es) (drop 7 ks)))
     (parted (mk m (take 6 es) (take 7 ks)) (slice_index_or es 6 x) (mk fresh (put (i - 7) x (drop 7 es)) (swap (i - 7) new (drop 7 ks)))))
 
-pub data Choice : Type 0 where
-  merge : Choice
-  move : ℕ → Choice
-  leave : Choice
-
--- of two neighbours with a and b entries, how many the border one has
-abbrev pub bordering : Side → ℕ → ℕ → ℕ
-bordering First a b = a
-bordering Last a b = b
+abbrev pub at_side : {X : Type 0} → Side → X → X → X
+at_side First x y = x
+at_side Last x y = y
 
 -- what fits together is merged; else a border one with fewer than six is raised to six
 abbrev pub choice : Side → ℕ → ℕ → Choice
-choice s a b = cond (nat_le (a + b + 1) 11) merge (cond (nat_lt (bordering s a b) 6) (move (6 - bordering s a b)) leave)
+choice s a b = cond (nat_le (a + b + 1) 11) Merge (cond (nat_lt (at_side s a b) 6) (Move (6 - at_side s a b)) Leave)
+
+-- `own` entries in the border one, `other` in its neighbour: what fits into one node with the entry between merges; else a border one with
+-- fewer than six gets just as many as make six, and its neighbour keeps five at least; else nothing is done
+pub record ChoiceFor (own other : ℕ) (c : Choice) : Type 0 where
+  pub merges : own + other + 1 ≤ 11 → c ≡ Merge
+  pub moves : 11 < own + other + 1 → own < 6 → (n : ℕ) × (c ≡ Move n) × (own + n ≡ 6) × (n + 5 ≤ other)
+  pub leaves : 11 < own + other + 1 → 6 ≤ own → c ≡ Leave
+
+abbrev pub ChoiceAt : Side → ℕ → ℕ → Choice → Type 0
+ChoiceAt First a b c = ChoiceFor a b c
+ChoiceAt Last a b c = ChoiceFor b a c
 
 -- two neighbours and the entry between them in the left one
 abbrev pub merged : {E : Type 0} → Tree E → E → Tree E → Tree E
@@ -59,9 +68,9 @@ moved Last n l e r =
     parted (mk (number l) (take keep (row l)) (take (suc keep) (kids l))) (slice_index_or (row l) keep e) (mk (number r) (drop (suc keep) (row l) ++ e ∷ row r) (drop (suc keep) (kids l) ++ kids r))
 
 abbrev pub chosen : {E : Type 0} → Side → Choice → Tree E → E → Tree E → Grown E
-chosen s merge l e r = whole (merged l e r)
-chosen s (move n) l e r = moved s n l e r
-chosen s leave l e r = parted l e r
+chosen s Merge l e r = whole (merged l e r)
+chosen s (Move n) l e r = moved s n l e r
+chosen s Leave l e r = parted l e r
 
 abbrev pub joint : {E : Type 0} → Side → Tree E → E → Tree E → Grown E
 joint s l e r = chosen s (choice s (length (row l)) (length (row r))) l e r

@@ -3,9 +3,13 @@
 ghost use Rattle.std.specs.Prelude.{◌≡◌, ℕ, ◌+◌, ◌-◌, ◌*◌, ◌<◌, ◌≤◌, List, length, IfOk, Ok, MatchResult};
 ghost use Rattle.node.specs.Store.{tables, Sized, Node};
 ghost use Rattle.node.specs.Operations.{Pairs, Lies, CanMerge, Merges, StealsLeft, StealsRight};
-ghost use Rattle.node.specs.Neighbours.{Paired, PairedOf};
+ghost use Rattle.node.specs.Neighbours.{Paired, PairedOf, Steals, JoinsChildren};
+ghost use Rattle.node.specs.Rules.{choice};
+ghost use Rattle.node.specs.declared.choice.Choice.TheVariants.{Move};
 
+use crate::choice::Choice;
 use crate::edges::{edge_at, move_edges, with_edges_of, without_edge};
+use crate::ends::Side;
 use crate::head::{CAPACITY, Head};
 use crate::links::correct_childrens_parent_links;
 use crate::nodes::{Internal, NodeRef};
@@ -49,11 +53,11 @@ impl Internal {
         let edges = &tables.heads[self.node as usize].edges;
         let left = edge_at(edges, idx);
         let right = edge_at(edges, idx + 1);
-        let left_len = tables.len_in(left)?;
-        let right_len = tables.len_in(right)?;
         if left == self.node || right == self.node || left == right {
             return Err(Fault::Breach);
         }
+        let left_len = tables.len_in(left)?;
+        let right_len = tables.len_in(right)?;
         Ok(Pair {
             node: self.node,
             idx,
@@ -92,6 +96,22 @@ impl Internal {
         if pair.left_len + pair.right_len + 1 > CAPACITY {
             return Err(Fault::Breach);
         }
+        self.merge_pair(heads, keys, values, pair)
+    }
+
+    /// Merges the two of `pair`, which fit together, and the entry between them into the left one.
+    fn merge_pair<K: Copy, V: Copy>(
+        self,
+        heads: &mut [Head],
+        keys: &mut [K],
+        values: &mut [V],
+        pair: Pair,
+    ) -> Result<(u16, u16), Fault>
+        requires lies { Paired (tables heads.old keys.old values.old) self.node pair.idx pair }
+        requires held { PairedOf (tables heads.old keys.old values.old) self.node pair.idx (Ok pair) }
+        requires fits { pair.left_len + pair.right_len + 1 ≤ 11 }
+        ensures { Merges (tables heads.old keys.old values.old) (tables heads.new keys.new values.new) self.height self.node pair.idx result }
+    {
         pair.merge_row(keys);
         pair.merge_row(values);
         let count = self.child(pair.right).edge_count(pair.right_len);
@@ -99,8 +119,8 @@ impl Internal {
         let below = move_edges(heads, pair.right, 0, pair.left, first, count);
         let own = without_edge(
             &heads[self.node as usize].edges,
-            idx + 1,
-            pair.len - idx - 1,
+            pair.idx + 1,
+            pair.len - pair.idx - 1,
         );
         heads[self.node as usize] = Head {
             len: (pair.len - 1) as u16,
@@ -112,7 +132,7 @@ impl Internal {
             edges: below,
             ..heads[pair.left as usize]
         };
-        correct_childrens_parent_links(heads, self.node, idx + 1, pair.len)?;
+        correct_childrens_parent_links(heads, self.node, pair.idx + 1, pair.len)?;
         correct_childrens_parent_links(heads, pair.left, first, first + count)?;
         Ok((pair.left, pair.right))
     }
@@ -135,6 +155,25 @@ impl Internal {
         };
         let pair = self.pair(&shown, idx)?;
         check_count(count, pair.left_len, pair.right_len)?;
+        self.steal_left_pair(heads, keys, values, pair, count)
+    }
+
+    /// Moves `count` entries of `pair` from the left one to the right one, which has room.
+    fn steal_left_pair<K: Copy, V: Copy>(
+        self,
+        heads: &mut [Head],
+        keys: &mut [K],
+        values: &mut [V],
+        pair: Pair,
+        count: usize,
+    ) -> Result<(), Fault>
+        requires lies { Paired (tables heads.old keys.old values.old) self.node pair.idx pair }
+        requires held { PairedOf (tables heads.old keys.old values.old) self.node pair.idx (Ok pair) }
+        requires some { 0 < count }
+        requires enough { count ≤ pair.left_len }
+        requires fits { count + pair.right_len ≤ 11 }
+        ensures { StealsLeft (tables heads.old keys.old values.old) (tables heads.new keys.new values.new) self.height self.node pair.idx count result }
+    {
         pair.steal_left_row(keys, count - 1);
         pair.steal_left_row(values, count - 1);
         let keep = pair.left_len - count;
@@ -169,6 +208,25 @@ impl Internal {
         };
         let pair = self.pair(&shown, idx)?;
         check_count(count, pair.right_len, pair.left_len)?;
+        self.steal_right_pair(heads, keys, values, pair, count)
+    }
+
+    /// Moves `count` entries of `pair` from the right one to the left one, which has room.
+    fn steal_right_pair<K: Copy, V: Copy>(
+        self,
+        heads: &mut [Head],
+        keys: &mut [K],
+        values: &mut [V],
+        pair: Pair,
+        count: usize,
+    ) -> Result<(), Fault>
+        requires lies { Paired (tables heads.old keys.old values.old) self.node pair.idx pair }
+        requires held { PairedOf (tables heads.old keys.old values.old) self.node pair.idx (Ok pair) }
+        requires some { 0 < count }
+        requires enough { count ≤ pair.right_len }
+        requires fits { count + pair.left_len ≤ 11 }
+        ensures { StealsRight (tables heads.old keys.old values.old) (tables heads.new keys.new values.new) self.height self.node pair.idx count result }
+    {
         pair.steal_right_row(keys, count - 1);
         pair.steal_right_row(values, count - 1);
         let keep = pair.right_len - count;
@@ -189,5 +247,59 @@ impl Internal {
         };
         correct_childrens_parent_links(heads, pair.left, first, first + moved)?;
         correct_childrens_parent_links(heads, pair.right, 0, rest)
+    }
+
+    /// Moves `count` entries of `pair` to the one at `side`, as was chosen for it.
+    fn steal_pair<K: Copy, V: Copy>(
+        self,
+        heads: &mut [Head],
+        keys: &mut [K],
+        values: &mut [V],
+        side: Side,
+        pair: Pair,
+        count: usize,
+    ) -> Result<(), Fault>
+        requires lies { Paired (tables heads.old keys.old values.old) self.node pair.idx pair }
+        requires held { PairedOf (tables heads.old keys.old values.old) self.node pair.idx (Ok pair) }
+        requires chosen { choice side pair.left_len pair.right_len ≡ Move count }
+        ensures { Steals side (tables heads.old keys.old values.old) (tables heads.new keys.new values.new) self.height self.node pair.idx count result }
+    {
+        match side {
+            Side::First => self.steal_right_pair(heads, keys, values, pair, count),
+            Side::Last => self.steal_left_pair(heads, keys, values, pair, count),
+        }
+    }
+
+    /// Merges the children beside the entry at `idx`, or raises the one at `side`, which stands at the border, or leaves both, as their
+    /// lengths choose. Each of the two lengths is looked up once, and what is done is given both.
+    /// Answers the border child, and the right one as left over where they were merged. Refuses with `Breach` where the tables hold no such
+    /// parent and children; what they hold afterwards is free then.
+    pub fn join_children<K: Copy, V: Copy>(
+        self,
+        heads: &mut [Head],
+        keys: &mut [K],
+        values: &mut [V],
+        side: Side,
+        idx: usize,
+    ) -> Result<(u16, Option<u16>), Fault>
+        ensures { JoinsChildren side (tables heads.old keys.old values.old) (tables heads.new keys.new values.new) self.height self.node idx result }
+    {
+        let shown = Tables {
+            heads,
+            keys,
+            values,
+        };
+        let pair = self.pair(&shown, idx)?;
+        match Choice::of(side, pair.left_len, pair.right_len) {
+            Choice::Merge => {
+                let (left, right) = self.merge_pair(heads, keys, values, pair)?;
+                Ok((left, Some(right)))
+            }
+            Choice::Move(count) => {
+                self.steal_pair(heads, keys, values, side, pair, count)?;
+                Ok((pair.child_at(side), None))
+            }
+            Choice::Leave => Ok((pair.child_at(side), None)),
+        }
     }
 }

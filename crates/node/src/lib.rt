@@ -3,6 +3,7 @@
 
 pub mod border;
 pub mod cells;
+pub mod choice;
 pub mod count;
 pub mod edges;
 pub mod ends;

@@ -1,6 +1,7 @@
 //! The rows of a parent and two of its children, in a table of keys or of values.
 
 use crate::cells::{move_cells, slice_remove};
+use crate::ends::Side;
 use crate::head::CAPACITY;
 
 /// A parent, an entry of it, and the two children beside that entry, each with its number of entries.
@@ -16,9 +17,20 @@ pub(crate) struct Pair {
 }
 
 impl Pair {
-    ghost use Rattle.std.specs.Prelude.{◌+◌, ◌-◌, ◌*◌, ◌<◌, ◌≤◌, length};
+    ghost use Rattle.std.specs.Prelude.{◌≡◌, ◌+◌, ◌-◌, ◌*◌, ◌<◌, ◌≤◌, length};
     ghost use Rattle.node.specs.Rows.{MergedRow, StolenLeft, StolenRight};
     ghost use Rattle.node.specs.Neighbours.{HasRows};
+    ghost use Rattle.node.specs.Rules.{at_side};
+
+    /// The child at `side` of the entry.
+    pub(crate) fn child_at(self, side: Side) -> u16
+        ensures { result ≡ at_side side self.left self.right }
+    {
+        match side {
+            Side::First => self.left,
+            Side::Last => self.right,
+        }
+    }
 
     /// Moves the parent's cell and the right row behind the left row.
     pub(crate) fn merge_row<T: Copy>(self, cells: &mut [T])

@@ -9,7 +9,9 @@ use Rattle.node.specs.Shape.{Tree, node, none, number, row, kids, kid, mk, flat,
 use Rattle.node.specs.declared.ends.Side.{Side}
 use Rattle.node.specs.declared.ends.Side.TheVariants.{First, Last}
 use Rattle.node.specs.Ends.{end_index}
-use Rattle.node.specs.Rules.{Grown, whole, parted, Choice, merge, move, leave, bordering, moved, chosen, joint}
+use Rattle.node.specs.declared.choice.Choice.{Choice}
+use Rattle.node.specs.declared.choice.Choice.TheVariants.{Merge, Move, Leave}
+use Rattle.node.specs.Rules.{Grown, whole, parted, at_side, moved, chosen, joint}
 use Rattle.node.specs.Sorted.{Sorted, index}
 use Rattle.rules.specs.Rules.{low, high, part}
 use Rattle.parts.specs.Rules.{cut_left, cut_right, beside, onward, fill, mend_at, mend, lifted, fix_top, repair, left_part, right_part}
@@ -52,8 +54,8 @@ module _ {E : Type 0} where
 
   -- moving is merging and parting anew
   pub moved_is : (s : Side) (h : ℕ) (l : Tree E) (e : E) (r : Tree E) → length (kids l) ≡ fan_out h (length (row l)) → length (kids r) ≡ fan_out h (length (row r))
-      → 11 < length (row l) + length (row r) + 1 → bordering s (length (row l)) (length (row r)) < 6
-      → part (share s (length (row l)) (length (row r))) (number r) (number l) (row l ++ e ∷ row r) (kids l ++ kids r) e ≡ moved s (6 - bordering s (length (row l)) (length (row r))) l e r
+      → 11 < length (row l) + length (row r) + 1 → at_side s (length (row l)) (length (row r)) < 6
+      → part (share s (length (row l)) (length (row r))) (number r) (number l) (row l ++ e ∷ row r) (kids l ++ kids r) e ≡ moved s (6 - at_side s (length (row l)) (length (row r))) l e r
   moved_is First h l e r fl fr p q =
       let a : ℕ = length (row l) in
       let e₁ : take 6 (row l ++ e ∷ row r) ≡ row l ++ e ∷ take ((6 - a) - 1) (row r) =
@@ -111,22 +113,22 @@ module _ {E : Type 0} where
   pub joint_cases : (P : Grown E → Type 0) (s : Side) (h : ℕ) (l : Tree E) (e : E) (r : Tree E)
       → length (kids l) ≡ fan_out h (length (row l)) → length (kids r) ≡ fan_out h (length (row r))
       → (length (row l) + length (row r) + 1 ≤ 11 → P (whole (mk (number l) (row l ++ e ∷ row r) (kids l ++ kids r))))
-      → (11 < length (row l) + length (row r) + 1 → bordering s (length (row l)) (length (row r)) < 6
+      → (11 < length (row l) + length (row r) + 1 → at_side s (length (row l)) (length (row r)) < 6
       → P (part (share s (length (row l)) (length (row r))) (number r) (number l) (row l ++ e ∷ row r) (kids l ++ kids r) e))
-      → (11 < length (row l) + length (row r) + 1 → 6 ≤ bordering s (length (row l)) (length (row r)) → P (parted l e r))
+      → (11 < length (row l) + length (row r) + 1 → 6 ≤ at_side s (length (row l)) (length (row r)) → P (parted l e r))
       → P (joint s l e r)
   joint_cases P s h l e r fl fr p q k =
       let a : ℕ = length (row l) in
       let c : ℕ = length (row r) in
       let d : Choice → Type 0 = λ z. P (chosen s z l e r) in
-      cond_both (leb (a + c + 1) 11) merge (cond (ltb (bordering s a c) 6) (move (6 - bordering s a c)) leave) d
+      cond_both (leb (a + c + 1) 11) Merge (cond (ltb (at_side s a c) 6) (Move (6 - at_side s a c)) Leave) d
       (λ x. p (leb-true (a + c + 1) 11 x))
-      (λ x. cond_both (ltb (bordering s a c) 6) (move (6 - bordering s a c)) leave d
+      (λ x. cond_both (ltb (at_side s a c) 6) (Move (6 - at_side s a c)) Leave d
       (λ y.
       let u = leb-false (a + c + 1) 11 x in
-      let v = ltb-true (bordering s a c) 6 y in
+      let v = ltb-true (at_side s a c) 6 y in
       subst P (moved_is s h l e r fl fr u v) (q u v))
-      (λ y. k (leb-false (a + c + 1) 11 x) (ltb-false (bordering s a c) 6 y)))
+      (λ y. k (leb-false (a + c + 1) 11 x) (ltb-false (at_side s a c) 6 y)))
 
   pub merged_flat : (h m : ℕ) (l : Tree E) (e : E) (r : Tree E) → length (kids l) ≡ fan_out h (length (row l))
       → flat h (mk m (row l ++ e ∷ row r) (kids l ++ kids r)) ≡ flat h l ++ e ∷ flat h r

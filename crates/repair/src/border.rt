@@ -6,7 +6,7 @@ ghost use Rattle.node.specs.Store.{tables};
 ghost use Rattle.parts.specs.Rules.{beside};
 ghost use Rattle.repair.specs.Repair.{Mends, Repairs};
 
-use crate::joint::Joint;
+use crate::joint::join;
 use crate::top::fix_top;
 use node::ends::Side;
 use node::head::Head;
@@ -49,7 +49,7 @@ fn mend<K: Copy, V: Copy, S: Supply>(
         return Ok(());
     }
     let idx = border_entry(side, len);
-    let child = Joint { parent, idx, side }.join(heads, keys, values, supply)?;
+    let child = join(heads, keys, values, supply, side, parent, idx)?;
     mend(heads, keys, values, supply, side, parent.child(child))
 }
 

@@ -1,12 +1,13 @@
-//! Two neighbours among the children of a node: merged where they fit into one, else the one at the border raised to six entries.
+//! Two neighbours among the children of a node: merged where they fit into one, else the one at the border raised to six entries, or left.
 
 ghost use Rattle.std.specs.Prelude.{◌≡◌, ◌<◌, length, MatchResult};
 ghost use Rattle.node.specs.Links.{edge};
+ghost use Rattle.node.specs.Store.{tables};
+ghost use Rattle.repair.specs.Joint.{Joins};
 
 use node::ends::Side;
-use node::head::{B, CAPACITY, Head};
+use node::head::{CAPACITY, Head};
 use node::nodes::Internal;
-use node::tables::Tables;
 use supply::{Fault, Supply};
 
 /// The edge of `node` at `idx`.
@@ -20,78 +21,22 @@ pub fn edge_of(heads: &[Head], node: u16, idx: usize) -> Result<u16, Fault>
     Ok(heads[at].edges[idx])
 }
 
-/// Two neighbours among the children of `parent`, beside its entry at `idx`, of which the one at `side` stands at the border.
-#[derive(Clone, Copy)]
-pub(crate) struct Joint {
-    pub(crate) parent: Internal,
-    pub(crate) idx: usize,
-    pub(crate) side: Side,
-    ghost low: { idx < 11 },
-}
-
-impl Joint {
-    ghost use Rattle.std.specs.Prelude.{◌≡◌};
-    ghost use Rattle.node.specs.Store.{tables};
-    ghost use Rattle.repair.specs.Joint.{border_edge, Raises, Joins};
-
-    /// The index of the edge to the border child.
-    fn border_edge(self) -> usize
-        ensures { result ≡ border_edge self.side self.idx }
-    {
-        match self.side {
-            Side::First => self.idx,
-            Side::Last => self.idx + 1,
-        }
+/// Joins the children of `parent` beside its entry at `idx`, of which the one at `side` stands at the border, as their lengths choose, and
+/// gives back the one that is left over where they were merged. Answers the border child.
+pub(crate) fn join<K: Copy, V: Copy, S: Supply>(
+    heads: &mut [Head],
+    keys: &mut [K],
+    values: &mut [V],
+    supply: &mut S,
+    side: Side,
+    parent: Internal,
+    idx: usize,
+) -> Result<u16, Fault>
+    ensures { Joins side (tables heads.old keys.old values.old) (tables heads.new keys.new values.new) (S.stock supply.old) (S.stock supply.new) parent.height parent.node idx result }
+{
+    let (child, left_over) = parent.join_children(heads, keys, values, side, idx)?;
+    if let Some(node) = left_over {
+        supply.give_back(node)?;
     }
-
-    /// Raises the border child to six entries, where it has fewer, and answers it.
-    fn raise<K: Copy, V: Copy>(
-        self,
-        heads: &mut [Head],
-        keys: &mut [K],
-        values: &mut [V],
-    ) -> Result<u16, Fault>
-        ensures { Raises self.side (tables heads.old keys.old values.old) (tables heads.new keys.new values.new) self.parent.height self.parent.node self.idx result }
-    {
-        let shown = Tables {
-            heads,
-            keys,
-            values,
-        };
-        let child = edge_of(heads, self.parent.node, self.border_edge())?;
-        let len = shown.len_in(child)?;
-        if len < B {
-            let Joint { parent, idx, .. } = self;
-            match self.side {
-                Side::First => parent.bulk_steal_right(heads, keys, values, idx, B - len)?,
-                Side::Last => parent.bulk_steal_left(heads, keys, values, idx, B - len)?,
-            }
-        }
-        Ok(child)
-    }
-
-    /// Merges the two where they fit into one node, and gives the right one back; else raises the one at the border.
-    /// Answers the border child.
-    pub(crate) fn join<K: Copy, V: Copy, S: Supply>(
-        self,
-        heads: &mut [Head],
-        keys: &mut [K],
-        values: &mut [V],
-        supply: &mut S,
-    ) -> Result<u16, Fault>
-        ensures { Joins self.side (tables heads.old keys.old values.old) (tables heads.new keys.new values.new) (S.stock supply.old) (S.stock supply.new) self.parent.height self.parent.node self.idx result }
-    {
-        let shown = Tables {
-            heads,
-            keys,
-            values,
-        };
-        let fits = self.parent.can_merge(&shown, self.idx)?;
-        if fits {
-            let (left, right) = self.parent.merge(heads, keys, values, self.idx)?;
-            supply.give_back(right)?;
-            return Ok(left);
-        }
-        self.raise(heads, keys, values)
-    }
+    Ok(child)
 }

@@ -1,9 +1,8 @@
-use Rattle.std.proofs.Common.{◌+◌, ◌-◌, sym, ap, true≢false, arith}
+use Rattle.std.proofs.Common.{◌+◌, ap, arith}
 use Rattle.node.specs.declared.rows.Pair.{Pair}
 use Rattle.node.specs.Operations.{Merges}
 use Rattle.node.specs.Neighbours.{PairedOf}
-use Rattle.node.proofs.Tabled.{err_not_ok, ok_same, fan_at}
-use Rattle.node.proofs.Merging.{pair_inside_p, pair_inside_l, pair_merged}
+use Rattle.node.proofs.Tabled.{err_not_ok, ok_same}
 use Rattle.node.proofs.nodes.Internal.merge.Goals as goal
 
 pub returns-in_err-pair : goal.returns-in_err-pair
@@ -17,32 +16,3 @@ returns-then-pair-gt-CAPACITY g c = λ l r us e ws es fs xs bs ks ls s q up f1 f
     let eq = ok_same _ _ (c.in_ok-pair.ensures.held l r us e ws es fs xs bs ks ls s q) in
     let m = ap (λ (p : Pair). p.left_len + p.right_len) eq in
     absurd (omega (arith, c.if-pair-gt-CAPACITY.true))
-
-pub returns-in_err-correct_childrens_parent_links : goal.returns-in_err-correct_childrens_parent_links
-unfolding Merges PairedOf
-returns-in_err-correct_childrens_parent_links g c = λ l r us e ws es fs xs bs ks ls s q up f1 f2 fits kids.
-    let eq = ok_same _ _ (c.in_ok-pair.ensures.held l r us e ws es fs xs bs ks ls s q) in
-    let all = pair_inside_p c.args.heads.now c.args.keys.now c.args.keys.now c.args.values.now c.args.values.now (c.args.self.height - 1) c.args.self.node c.args.idx
-    l r us e ws es fs xs bs ks ls q f1 f2 fits kids c.edge_count-count.result c.without_edge-own.result c.move_edges-below.result c.in_ok-pair.pair eq
-    (record { fan = fan_at _ _ _ _ c.child.ensures.1 c.edge_count-count.ensures; put_own = c.without_edge-own.ensures; put_below = c.move_edges-below.ensures }) in
-    absurd (true≢false (sym (c.in_err-correct_childrens_parent_links.ensures.total all)))
-
-pub returns-in_err-correct_childrens_parent_links-2 : goal.returns-in_err-correct_childrens_parent_links-2
-unfolding Merges PairedOf
-returns-in_err-correct_childrens_parent_links-2 g c = λ l r us e ws es fs xs bs ks ls s q up f1 f2 fits kids.
-    let eq = ok_same _ _ (c.in_ok-pair.ensures.held l r us e ws es fs xs bs ks ls s q) in
-    let all = pair_inside_l c.args.heads.now c.args.keys.now c.args.keys.now c.args.values.now c.args.values.now (c.args.self.height - 1) c.args.self.node c.args.idx
-    l r us e ws es fs xs bs ks ls q f1 f2 fits kids c.edge_count-count.result c.without_edge-own.result c.move_edges-below.result c.in_ok-pair.pair eq
-    (record { fan = fan_at _ _ _ _ c.child.ensures.1 c.edge_count-count.ensures; put_own = c.without_edge-own.ensures; put_below = c.move_edges-below.ensures })
-    c.correct_childrens_parent_links.new.heads c.in_ok-correct_childrens_parent_links.ensures.done in
-    absurd (true≢false (sym (c.in_err-correct_childrens_parent_links-2.ensures.total all)))
-
-pub returns : goal.returns
-unfolding Merges PairedOf
-returns g c = λ l r us e ws es fs xs bs ks ls s q up f1 f2 fits kids.
-    let eq = ok_same _ _ (c.in_ok-pair.ensures.held l r us e ws es fs xs bs ks ls s q) in
-    pair_merged c.args.heads.now c.args.keys.now c.merge_row.new.cells c.args.values.now c.merge_row-2.new.cells (c.args.self.height - 1) c.args.self.node c.args.idx
-    l r us e ws es fs xs bs ks ls q f1 f2 fits kids c.edge_count-count.result c.without_edge-own.result c.move_edges-below.result c.in_ok-pair.pair eq
-    (record { fan = fan_at _ _ _ _ c.child.ensures.1 c.edge_count-count.ensures; put_own = c.without_edge-own.ensures; put_below = c.move_edges-below.ensures })
-    c.correct_childrens_parent_links.new.heads c.in_ok-correct_childrens_parent_links.ensures.done
-    c.correct_childrens_parent_links-2.new.heads c.in_ok-correct_childrens_parent_links-2.ensures.done c.merge_row.ensures c.merge_row-2.ensures
