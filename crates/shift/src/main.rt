@@ -2,6 +2,7 @@
 #![tactic(auto)]
 
 mod batches;
+mod before;
 mod blending;
 mod card;
 mod day;
@@ -13,6 +14,7 @@ use supply::bits::Bitmap;
 use supply::links::Chain;
 
 fn main(rt: HostRuntime) -> anyhow::Result<()> {
+    before::print_spare_nodes(&rt)?;
     blending::print_shift(&rt, "chain", Chain::new(5))?;
     blending::print_shift_card(&rt, "bitmap", Bitmap::new(5))?;
     day::supplies(&rt)?;
