@@ -1,7 +1,8 @@
 #!/usr/bin/env python3
-"""Writes the script that crates/replay performs: puts, lookups, cuts, walks, releases, audits, shapes and counts on sixteen places.
+"""Writes the first part of the script that crates/replay performs: puts, lookups, cuts, walks, releases, audits, shapes and counts on sixteen
+places. decade_script.py writes the rest.
 
-The answers in crates/replay/stdout are the original's: its map, version 0.4.9, unedited, was given the same calls by a driver that keeps sixteen
+Its answers in crates/replay/stdout are the original's: its map, version 0.4.9, unedited, was given the same calls by a driver that keeps sixteen
 of its maps under an allocator which grants as many nodes as crates/replay/args says. The driver asks the map beforehand how many nodes a call
 takes, and prints `refused 6` with that number and the allowance where there are too few. For an audit it looks whether each map is in good form, and
 the nodes that are out are those that the maps and walks reach.

@@ -4,7 +4,7 @@
 --   Acts             the call answers what the rule does, and the place becomes what the rule gives; or it is refused as by the rule, and nothing has changed
 --   Asks             the same of a call that changes nothing
 --   Counts           a count goes up where no old value is answered
---   InsertsIn, LooksIn, CutsIn, OpensIn, StepsIn, ClosesIn, ReleasesIn    so it is of each call, by its rule
+--   InsertsIn, LooksIn, LeastsIn, CutsIn, OpensIn, StepsIn, ClosesIn, ReleasesIn    so it is of each call, by its rule
 use Rattle.std.specs.Prelude.{◌≡◌, ℕ, ◌+◌, ◌≤◌, true, length, Some, None, Ok, Err, Option, Result, MatchResult}
 use Rattle.std.specs.declared.cmp.Ordering.{Ordering}
 use Rattle.supply.specs.declared.faults.Fault.{Fault}
@@ -16,10 +16,10 @@ use Rattle.walk.specs.declared.walks.Walk.{Walk}
 use Rattle.books.specs.declared.places.Place.{Place}
 use Rattle.books.specs.declared.places.Place.TheVariants as P
 use Rattle.books.specs.declared.calls.Answer.{Answer}
-use Rattle.books.specs.declared.calls.Answer.TheVariants.{Inserted, Found, Parted, Opened, Handed, Dropped}
+use Rattle.books.specs.declared.calls.Answer.TheVariants.{Inserted, Found, Least as LeastIs, Parted, Opened, Handed, Dropped}
 use Rattle.books.specs.Books.{Book, bare, uses, BookAt}
 use Rattle.books.specs.Faults.{fault_code}
-use Rattle.books.specs.Rules.{Query, Part, Parts, kind_of, is_map, insert_in, lookup_in, cut_in, open_in, step_in, drop_in}
+use Rattle.books.specs.Rules.{Query, Part, Parts, kind_of, is_map, insert_in, lookup_in, least_in, cut_in, open_in, step_in, drop_in}
 
 pub record Ready {K V : Type 0} (compares : K → K → Ordering) (T : Tables K V) (S : Stock) (p : Place) (b : Book (K × V)) : Type 0 where
   pub at : BookAt compares T p b
@@ -63,6 +63,10 @@ found y = Found y.0 y.1
 unfoldable pub LooksIn : {K V : Type 0} → (K → K → Ordering) → Tables K V → Place → Query K → Result (Option V × ℕ) Fault → Type 0
 LooksIn {K} {V} compares T p place r =
     (S : Stock) (b : Book (K × V)) → Ready compares T S p b → is_map (kind_of b) ≡ true → MatchResult r (λ y. lookup_in place b ≡ Ok (found {K = K} y)) (λ _. ⊥)
+
+unfoldable pub LeastsIn : {K V : Type 0} → (K → K → Ordering) → Tables K V → Place → Query K → Result (Option (K × V)) Fault → Type 0
+LeastsIn {K} {V} compares T p place r =
+    (S : Stock) (b : Book (K × V)) → Ready compares T S p b → is_map (kind_of b) ≡ true → MatchResult r (λ x. least_in place b ≡ Ok (LeastIs x)) (λ _. ⊥)
 
 abbrev pub counts : {K V : Type 0} → ℕ × ℕ × ℕ → Answer K V
 counts n = Parted n.0 n.1 n.2

@@ -58,19 +58,19 @@ module _ {K V : Type 0} {compares : K → K → Ordering} (ordered : Ordered com
 pub answers_more : {K V : Type 0} (n : ℕ) (rs : List (Result (Answer K V) Refusal)) (r : Result (Answer K V) Refusal) → n < length rs → first_answers (n + 1) (set rs n r) ≡ first_answers n rs ++ told itself r ∷ []
 answers_more n rs r l = ap (map (told itself)) (take_more_set rs n r l) ∙ map-append (told itself) (take n rs) (r ∷ [])
 
-module _ {K V Q : Type 0} where
-  pub calls_more : (places : Q → Query K) (n : ℕ) (calls : List (Call K V Q)) (d : Call K V Q) → n < length calls → first_calls places (n + 1) calls ≡ first_calls places n calls ++ asked places (get_or calls n d) ∷ []
-  calls_more places n calls d l = ap (map (asked places)) (take_more calls n d l) ∙ map-append (asked places) (take n calls) (get_or calls n d ∷ [])
+module _ {K V P Q : Type 0} where
+  pub calls_more : (points : P → Query K) (places : Q → Query K) (n : ℕ) (calls : List (Call K V P Q)) (d : Call K V P Q) → n < length calls → first_calls points places (n + 1) calls ≡ first_calls points places n calls ++ asked points places (get_or calls n d) ∷ []
+  calls_more points places n calls d l = ap (map (asked points places)) (take_more calls n d l) ∙ map-append (asked points places) (take n calls) (get_or calls n d ∷ [])
 
-  pub same_long : (places : Q → Query K) (n : ℕ) (calls : List (Call K V Q)) (rs : List (Result (Answer K V) Refusal)) → n ≤ length calls → n ≤ length rs → length (first_calls places n calls) ≡ length (first_answers n rs)
-  same_long places n calls rs l k = omega (arith, length-map (take n calls) (asked places), length-map (take n rs) (told itself), length-take-le n calls l, length-take-le n rs k)
+  pub same_long : (points : P → Query K) (places : Q → Query K) (n : ℕ) (calls : List (Call K V P Q)) (rs : List (Result (Answer K V) Refusal)) → n ≤ length calls → n ≤ length rs → length (first_calls points places n calls) ≡ length (first_answers n rs)
+  same_long points places n calls rs l k = omega (arith, length-map (take n calls) (asked points places), length-map (take n rs) (told itself), length-take-le n calls l, length-take-le n rs k)
 
   -- one call more, with its answer put down
-  pub listed_more : {compares : K → K → Ordering} (ordered : Ordered compares) (places : Q → Query K) (n : ℕ) (calls : List (Call K V Q)) (c : Call K V Q) (rs rs' : List (Result (Answer K V) Refusal)) (r : Result (Answer K V) Refusal) (s s₁ s₂ : State K V)
-      → n < length calls → n < length rs → c ≡ get_or calls n c → rs' ≡ set rs n r → s₂.size ≡ s₁.size → PerformsAll compares (first_calls places n calls) s s₁ (first_answers n rs) → Keeps compares (asked places c) s₁ s₂ (told itself r)
-      → PerformsAll compares (first_calls places (n + 1) calls) s s₂ (first_answers (n + 1) rs')
-  listed_more {compares} ordered places n calls c rs rs' r s s₁ s₂ l k q z i a d =
-      subst (λ x. PerformsAll compares (first_calls places (n + 1) calls) s s₂ (first_answers (n + 1) x)) (sym z)
-      (subst (λ x. PerformsAll compares x s s₂ (first_answers (n + 1) (set rs n r))) (sym (calls_more places n calls c l ∙ ap (λ y. first_calls places n calls ++ asked places y ∷ []) (sym q)))
-      (subst (λ x. PerformsAll compares (first_calls places n calls ++ asked places c ∷ []) s s₂ x) (sym (answers_more n rs r k))
-      (all_more ordered (first_calls places n calls) (first_answers n rs) s s₁ s₂ (asked places c) (told itself r) (same_long places n calls rs (omega arith) (omega arith)) i a d)))
+  pub listed_more : {compares : K → K → Ordering} (ordered : Ordered compares) (points : P → Query K) (places : Q → Query K) (n : ℕ) (calls : List (Call K V P Q)) (c : Call K V P Q) (rs rs' : List (Result (Answer K V) Refusal)) (r : Result (Answer K V) Refusal) (s s₁ s₂ : State K V)
+      → n < length calls → n < length rs → c ≡ get_or calls n c → rs' ≡ set rs n r → s₂.size ≡ s₁.size → PerformsAll compares (first_calls points places n calls) s s₁ (first_answers n rs) → Keeps compares (asked points places c) s₁ s₂ (told itself r)
+      → PerformsAll compares (first_calls points places (n + 1) calls) s s₂ (first_answers (n + 1) rs')
+  listed_more {compares} ordered points places n calls c rs rs' r s s₁ s₂ l k q z i a d =
+      subst (λ x. PerformsAll compares (first_calls points places (n + 1) calls) s s₂ (first_answers (n + 1) x)) (sym z)
+      (subst (λ x. PerformsAll compares x s s₂ (first_answers (n + 1) (set rs n r))) (sym (calls_more points places n calls c l ∙ ap (λ y. first_calls points places n calls ++ asked points places y ∷ []) (sym q)))
+      (subst (λ x. PerformsAll compares (first_calls points places n calls ++ asked points places c ∷ []) s s₂ x) (sym (answers_more n rs r k))
+      (all_more ordered (first_calls points places n calls) (first_answers n rs) s s₁ s₂ (asked points places c) (told itself r) (same_long points places n calls rs (omega arith) (omega arith)) i a d)))

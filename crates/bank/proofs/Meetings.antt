@@ -5,11 +5,11 @@ use Rattle.std.specs.declared.cmp.Ordering.{Ordering}
 use Rattle.supply.specs.Stocks.{Stock, size_of, is_out, is_barred, outs_of}
 use Rattle.node.specs.Balance.{Beside, Spared}
 use Rattle.node.proofs.Balances.{beside_spared, spared_none}
-use Rattle.order.specs.Laws.{Ordered, Placed}
+use Rattle.order.specs.Laws.{Ordered, Placed, Pointed}
 use Rattle.node.specs.Store.{Tables}
 use Rattle.books.specs.declared.places.Place.{Place}
 use Rattle.books.specs.declared.calls.Answer.{Answer}
-use Rattle.books.specs.declared.calls.Call.TheVariants.{Insert, Lookup, Count, Cut, Open, Step, Close, Release, Audit}
+use Rattle.books.specs.declared.calls.Call.TheVariants.{Insert, Lookup, Least, Count, Cut, Open, Step, Close, Release, Audit}
 use Rattle.books.specs.Books.{Book, bare, uses, book_in}
 use Rattle.books.specs.Meaning.{Agreeing, Means}
 use Rattle.books.specs.Places.{place_in}
@@ -28,17 +28,18 @@ use Rattle.bank.specs.Calls.{Fit, Met, Performs}
 use Rattle.bank.specs.Gate.{kinds}
 use Rattle.bank.proofs.Keepings.{all_sound, kind_same, uses_one, one_replaced, two_replaced}
 
--- the query of a call agrees with the order of the keys
-pub agreeing : {K V Q : Type 0} {compares : K → K → Ordering} {places : Q → K → Ordering} → Placed compares places → (c : Call K V Q) → Agreeing compares (asked places c)
-agreeing w (Insert p k v) = tt
-agreeing w (Lookup p q) = record { under = w.under q; over = w.over q }
-agreeing w (Count p) = tt
-agreeing w (Cut p o q) = record { under = w.under q; over = w.over q }
-agreeing w (Open p) = tt
-agreeing w (Step p d) = tt
-agreeing w (Close p) = tt
-agreeing w (Release p) = tt
-agreeing w Audit = tt
+-- the query of a call agrees with the order of the keys, and that of a lookup stands at one place
+pub agreeing : {K V P Q : Type 0} {compares : K → K → Ordering} {points : P → K → Ordering} {places : Q → K → Ordering} → Placed compares points → Pointed compares points → Placed compares places → (c : Call K V P Q) → Agreeing compares (asked points places c)
+agreeing v i w (Insert p k x) = tt
+agreeing v i w (Lookup p q) = record { agrees = record { under = v.under q; over = v.over q }; single = i.single q }
+agreeing v i w (Least p q) = record { under = w.under q; over = w.over q }
+agreeing v i w (Count p) = tt
+agreeing v i w (Cut p o q) = record { under = w.under q; over = w.over q }
+agreeing v i w (Open p) = tt
+agreeing v i w (Step p d) = tt
+agreeing v i w (Close p) = tt
+agreeing v i w (Release p) = tt
+agreeing v i w Audit = tt
 
 -- ---- the checks, by places and by books
 
@@ -64,6 +65,7 @@ module _ (k k' : ℕ → Kind) (same : (p : ℕ) → p < 16 → k p ≡ k' p) wh
   pub check_same : {K V : Type 0} (c : Asked K V) → check k c ≡ check k' c
   check_same (Insert p x v) = one_same is_map p
   check_same (Lookup p q) = one_same is_map p
+  check_same (Least p q) = one_same is_map p
   check_same (Count p) = one_same (λ _. true) p
   check_same (Cut p o q) = two_same p o
   check_same (Open p) = one_same is_map p

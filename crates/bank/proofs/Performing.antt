@@ -10,8 +10,8 @@ use Rattle.node.specs.Balance.{Unchanged}
 use Rattle.node.specs.Store.{Tables}
 use Rattle.books.specs.declared.places.Place.{Place}
 use Rattle.books.specs.declared.calls.Answer.{Answer}
-use Rattle.books.specs.declared.calls.Answer.TheVariants.{Inserted, Counted, Opened, Handed, Dropped, Audited}
-use Rattle.books.specs.declared.calls.Call.TheVariants.{Insert, Lookup, Count, Cut, Open, Step, Close, Release, Audit}
+use Rattle.books.specs.declared.calls.Answer.TheVariants.{Inserted, Least as LeastIs, Counted, Opened, Handed, Dropped, Audited}
+use Rattle.books.specs.declared.calls.Call.TheVariants.{Insert, Lookup, Least, Count, Cut, Open, Step, Close, Release, Audit}
 use Rattle.node.specs.declared.ends.Side.{Side}
 use Rattle.walk.specs.declared.walks.Walk.{Walk}
 use Rattle.books.specs.declared.places.Place.TheVariants as P
@@ -22,7 +22,7 @@ use Rattle.books.specs.Refusals.{Code}
 use Rattle.books.specs.Rules.{Asked as Call, Query, Kind, outcome, check, check_one, check_two, kind_of, is_map, is_walk, is_bare, insert_in, cut_in, open_in, step_in, drop_in}
 use Rattle.books.specs.States.{State, Models, GoodForm}
 use Rattle.books.proofs.Placing.{one_passes, Two, two_pass, bare_is}
-use Rattle.acts.specs.Acts.{Ready, found, counts, InsertsIn, LooksIn, CutsIn, OpensIn, StepsIn, ClosesIn, ReleasesIn}
+use Rattle.acts.specs.Acts.{Ready, found, counts, InsertsIn, LooksIn, LeastsIn, CutsIn, OpensIn, StepsIn, ClosesIn, ReleasesIn}
 use Rattle.bank.specs.Calls.{Fit, Met, Reads, Asks, Audits, Performs, count_at}
 use Rattle.bank.specs.Gate.{Fits, kinds}
 use Rattle.bank.proofs.Keepings.{ready_at, kind_same}
@@ -111,6 +111,20 @@ module _ {K V : Type 0} {compares : K → K → Ordering} (ordered : Ordered com
     unfolding LooksIn
     looked_not f e i =
         passed compares (Lookup p place) s s fit w.pass (Err e) refl (λ _. refl) (λ _. refl) refl
+        (λ bs m. absurd (i s.stock (book_in bs p) (ready is_map p here w bs m) (kind is_map p here w bs m)))
+
+  module _ (p : ℕ) (place : Query K) (here : Place) (w : Asked is_map p here) where
+    pub least_done : (x : Option (K × V)) → LeastsIn compares s.tables here place (Ok x) → Performs compares (Least p place) s s (Ok (LeastIs x))
+    unfolding LeastsIn
+    least_done x i =
+        passed compares (Least p place) s s fit w.pass (Ok (LeastIs x)) refl (λ _. refl) (λ _. refl) refl
+        (λ bs m.
+        met_same ordered s (Least p place) clear w.pass bs m s refl (λ _. 0) 0 (Ok (LeastIs x)) (ap (λ r. outcome r bs) (i s.stock (book_in bs p) (ready is_map p here w bs m) (kind is_map p here w bs m))))
+
+    pub least_not : (f : Fault) (e : Code) → LeastsIn compares s.tables here place (Err f) → Performs compares (Least p place) s s (Err e)
+    unfolding LeastsIn
+    least_not f e i =
+        passed compares (Least p place) s s fit w.pass (Err e) refl (λ _. refl) (λ _. refl) refl
         (λ bs m. absurd (i s.stock (book_in bs p) (ready is_map p here w bs m) (kind is_map p here w bs m)))
 
   count_same : (T : Tables K V) (x : Place) (b : Book (K × V)) → BookAt compares T x b → count_at x ≡ length (entries b)

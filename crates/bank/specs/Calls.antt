@@ -16,7 +16,7 @@ use Rattle.books.specs.declared.places.Place.{Place}
 use Rattle.books.specs.declared.places.Place.TheVariants as P
 use Rattle.books.specs.declared.calls.Answer.{Answer}
 use Rattle.books.specs.declared.calls.Answer.TheVariants.{Audited, Opened}
-use Rattle.books.specs.declared.calls.Call.TheVariants.{Insert, Lookup, Count, Cut, Open, Step, Close, Release, Audit}
+use Rattle.books.specs.declared.calls.Call.TheVariants.{Insert, Lookup, Least, Count, Cut, Open, Step, Close, Release, Audit}
 use Rattle.books.specs.declared.refusals.Refusal.{Refusal}
 use Rattle.books.specs.Books.{Book}
 use Rattle.books.specs.Laws.{Numbered}
@@ -62,6 +62,7 @@ pub record Met {K V : Type 0} (compares : K → K → Ordering) (c : Asked K V) 
 abbrev pub Reads : {K V : Type 0} → Asked K V → Bool
 Reads (Insert p k v) = false
 Reads (Lookup p q) = true
+Reads (Least p q) = true
 Reads (Count p) = true
 Reads (Cut p o q) = false
 Reads (Open p) = true
@@ -73,6 +74,7 @@ Reads Audit = true
 abbrev pub Asks : {K V : Type 0} → Asked K V → Bool
 Asks (Insert p k v) = false
 Asks (Lookup p q) = true
+Asks (Least p q) = true
 Asks (Count p) = true
 Asks (Cut p o q) = false
 Asks (Open p) = false
@@ -84,6 +86,7 @@ Asks Audit = true
 abbrev pub Audits : {K V : Type 0} → Asked K V → Bool
 Audits (Insert p k v) = false
 Audits (Lookup p q) = false
+Audits (Least p q) = false
 Audits (Count p) = false
 Audits (Cut p o q) = false
 Audits (Open p) = false

@@ -34,8 +34,8 @@ abbrev pub PerformsAll : {K V : Type 0} → (K → K → Ordering) → List (Ask
 PerformsAll {K} {V} compares cs s s' rs = (bs : List (Book (K × V))) → Fit s → Models compares s bs → MetAll compares cs s s' rs bs
 
 -- the calls and the answers of the first n
-abbrev pub first_calls : {K V Q : Type 0} → (Q → Query K) → ℕ → List (Call K V Q) → List (Asked K V)
-first_calls places n calls = map (asked places) (take n calls)
+abbrev pub first_calls : {K V P Q : Type 0} → (P → Query K) → (Q → Query K) → ℕ → List (Call K V P Q) → List (Asked K V)
+first_calls points places n calls = map (asked points places) (take n calls)
 
 abbrev pub first_answers : {K V : Type 0} → ℕ → List (Result (Answer K V) Refusal) → List (Result (Answer K V) Code)
 first_answers n rs = map (told itself) (take n rs)

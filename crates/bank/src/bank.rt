@@ -6,7 +6,7 @@ ghost use Rattle.bank.specs.Calls.{count_at};
 use crate::gate::{CallKind, admit, admit_cut, admit_walk, fit};
 use acts::cutting::cut_in;
 use acts::inserting::insert_in;
-use acts::looking::lookup_in;
+use acts::looking::{least_in, lookup_in};
 use acts::walking::{close_in, open_in, release_in, step_in};
 use audit::audits::audit;
 use books::places::{Place, Register};
@@ -173,6 +173,28 @@ impl<S: Supply> Bank<S> {
         Ok(lookup_in(&tables, here, query)?)
     }
 
+    /// The least entry that is the same as the query, key and value, in a bare place or a tree, if there is one: of a day, its least batch. Refused
+    /// as a lookup is: for tables that do not fit (1), a place above 15 (3) or a walk (4). It changes nothing.
+    pub fn least<K: KeyOrder, V: Copy, Q: Query<K>>(
+        &self,
+        heads: &[Head],
+        keys: &[K],
+        values: &[V],
+        place: usize,
+        query: &Q,
+    ) -> Result<Option<(K, V)>, Refusal>
+        ensures { Performs K.KeyOrder.compares (Call.Least place (Q.Placing.places query.now)) (state_of S.stock self.now (tables heads.now keys.now values.now)) (state_of S.stock self.now (tables heads.now keys.now values.now)) (told Answer.Least result) }
+    {
+        self.fit(heads.len(), keys.len(), values.len())?;
+        let here = admit(&self.register, place, CallKind::Least)?;
+        let tables = Tables {
+            heads,
+            keys,
+            values,
+        };
+        Ok(least_in(&tables, here, query)?)
+    }
+
     /// How many entries a place has, or a walk has left.
     pub fn count<K: KeyOrder, V>(
         &self,
@@ -188,8 +210,8 @@ impl<S: Supply> Bank<S> {
         Ok(count_in(here))
     }
 
-    /// Cuts a bare place or a tree at a query: what is below it stays, and the rest goes to the bare place `other`. Answers the entries left,
-    /// the entries right and the comparisons made.
+    /// Cuts a bare place or a tree at a query: what is below it stays, and the rest, so all that is the same as it, goes to the bare place
+    /// `other`. Answers the entries left, the entries right and the comparisons made.
     pub fn cut<K: KeyOrder, V: Copy, Q: Query<K>>(
         &mut self,
         heads: &mut [Head],

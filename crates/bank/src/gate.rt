@@ -16,6 +16,7 @@ use walk::walks::Walk;
 pub(crate) enum CallKind {
     Insert,
     Lookup,
+    Least,
     Count,
     Cut,
     Open,
@@ -48,6 +49,7 @@ pub(crate) fn allows(place: Place, call: CallKind) -> bool
             Place::Bare | Place::Tree { .. },
             CallKind::Insert
             | CallKind::Lookup
+            | CallKind::Least
             | CallKind::Cut
             | CallKind::Open
             | CallKind::Release,

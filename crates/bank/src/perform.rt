@@ -34,14 +34,14 @@ impl<S: Supply> Bank<S> {
     ghost use Rattle.bank.specs.Lists.{PerformsAll, first_calls, first_answers};
 
     /// Performs a call by its case.
-    fn dispatch<K: KeyOrder, V: Copy, Q: PointQuery<K>>(
+    fn dispatch<K: KeyOrder, V: Copy, P: PointQuery<K>, Q: Query<K>>(
         &mut self,
         heads: &mut [Head],
         keys: &mut [K],
         values: &mut [V],
-        call: &Call<K, V, Q>,
+        call: &Call<K, V, P, Q>,
     ) -> Result<Answer<K, V>, Refusal>
-        ensures { Performs K.KeyOrder.compares (asked Q.Placing.places call.now) (state_of S.stock self.old (tables heads.old keys.old values.old)) (state_of S.stock self.new (tables heads.new keys.new values.new)) (told itself result) }
+        ensures { Performs K.KeyOrder.compares (asked P.Placing.places Q.Placing.places call.now) (state_of S.stock self.old (tables heads.old keys.old values.old)) (state_of S.stock self.new (tables heads.new keys.new values.new)) (told itself result) }
     {
         match call {
             Call::Insert { place, key, value } => {
@@ -51,6 +51,10 @@ impl<S: Supply> Bank<S> {
             Call::Lookup { place, query } => {
                 let (value, made) = self.lookup(heads, keys, values, *place, query)?;
                 Ok(Answer::Found(value, made))
+            }
+            Call::Least { place, query } => {
+                let entry = self.least(heads, keys, values, *place, query)?;
+                Ok(Answer::Least(entry))
             }
             Call::Count { place } => {
                 let count = self.count(heads, keys, values, *place)?;
@@ -88,31 +92,31 @@ impl<S: Supply> Bank<S> {
     }
 
     /// Performs a call, and answers what it answers.
-    pub fn perform<K: KeyOrder, V: Copy, Q: PointQuery<K>>(
+    pub fn perform<K: KeyOrder, V: Copy, P: PointQuery<K>, Q: Query<K>>(
         &mut self,
         heads: &mut [Head],
         keys: &mut [K],
         values: &mut [V],
-        call: &Call<K, V, Q>,
+        call: &Call<K, V, P, Q>,
     ) -> Result<Answer<K, V>, Refusal>
-        ensures does { Performs K.KeyOrder.compares (asked Q.Placing.places call.now) (state_of S.stock self.old (tables heads.old keys.old values.old)) (state_of S.stock self.new (tables heads.new keys.new values.new)) (told itself result) }
-        ensures agrees { Agreeing K.KeyOrder.compares (asked Q.Placing.places call.now) }
-        ensures keeps { Keeps K.KeyOrder.compares (asked Q.Placing.places call.now) (state_of S.stock self.old (tables heads.old keys.old values.old)) (state_of S.stock self.new (tables heads.new keys.new values.new)) (told itself result) }
+        ensures does { Performs K.KeyOrder.compares (asked P.Placing.places Q.Placing.places call.now) (state_of S.stock self.old (tables heads.old keys.old values.old)) (state_of S.stock self.new (tables heads.new keys.new values.new)) (told itself result) }
+        ensures agrees { Agreeing K.KeyOrder.compares (asked P.Placing.places Q.Placing.places call.now) }
+        ensures keeps { Keeps K.KeyOrder.compares (asked P.Placing.places Q.Placing.places call.now) (state_of S.stock self.old (tables heads.old keys.old values.old)) (state_of S.stock self.new (tables heads.new keys.new values.new)) (told itself result) }
     {
         self.dispatch(heads, keys, values, call)
     }
 
     /// Performs calls one after the other and puts down what each answers, as many as there is room for. Answers how many were performed.
-    pub fn perform_all<K: KeyOrder, V: Copy, Q: PointQuery<K>>(
+    pub fn perform_all<K: KeyOrder, V: Copy, P: PointQuery<K>, Q: Query<K>>(
         &mut self,
         heads: &mut [Head],
         keys: &mut [K],
         values: &mut [V],
-        calls: &[Call<K, V, Q>],
+        calls: &[Call<K, V, P, Q>],
         answers: &mut [Result<Answer<K, V>, Refusal>],
     ) -> usize
         ensures count { Lesser result (length calls.now) (length answers.old) }
-        ensures all { PerformsAll K.KeyOrder.compares (first_calls Q.Placing.places result calls.now) (state_of S.stock self.old (tables heads.old keys.old values.old)) (state_of S.stock self.new (tables heads.new keys.new values.new)) (first_answers result answers.new) }
+        ensures all { PerformsAll K.KeyOrder.compares (first_calls P.Placing.places Q.Placing.places result calls.now) (state_of S.stock self.old (tables heads.old keys.old values.old)) (state_of S.stock self.new (tables heads.new keys.new values.new)) (first_answers result answers.new) }
     {
         let count = lesser(calls.len(), answers.len());
         for idx in 0..count {

@@ -11,7 +11,7 @@ use std::process::Abort;
 use std::test::Fail;
 use supply::Supply;
 
-pub type Ask = Call<BlendNumber, u32, BlendNumber>;
+pub type Ask = Call<BlendNumber, u32, BlendNumber, BlendNumber>;
 
 pub type Told = Result<Answer<BlendNumber, u32>, Refusal>;
 
@@ -33,6 +33,13 @@ pub fn insert(place: usize, key: u32) -> Ask {
 
 pub fn lookup(place: usize, key: u32) -> Ask {
     Call::Lookup {
+        place,
+        query: BlendNumber::from(key),
+    }
+}
+
+pub fn least(place: usize, key: u32) -> Ask {
+    Call::Least {
         place,
         query: BlendNumber::from(key),
     }
@@ -76,11 +83,12 @@ pub fn count(place: usize) -> Ask {
     Call::Count { place }
 }
 
-/// Each call on a place: five that a map allows, three that a walk allows, and the count. A cut is into place 9.
-pub fn calls(place: usize) -> [Ask; 9] {
+/// Each call on a place: six that a map allows, three that a walk allows, and the count. A cut is into place 9.
+pub fn calls(place: usize) -> [Ask; 10] {
     [
         insert(place, 50),
         lookup(place, 50),
+        least(place, 50),
         cut(place, 9, 50),
         open(place),
         release(place),
@@ -130,6 +138,9 @@ pub fn by_methods<S: Supply + Drop>(
             let (value, made) = bank.lookup(heads, keys, values, place, &query)?;
             Ok(Answer::Found(value, made))
         }
+        Call::Least { place, query } => Ok(Answer::Least(bank.least(
+            heads, keys, values, place, &query,
+        )?)),
         Call::Count { place } => Ok(Answer::Counted(bank.count(heads, keys, values, place)?)),
         Call::Cut {
             place,

@@ -63,7 +63,7 @@ fn allowed(call: Ask, walk: bool) -> bool {
 #[test]
 fn kinds_of_places_allow_their_calls(rt: HostRuntime) -> Result<(), Fail> {
     for methods in [true, false] {
-        for which in 0..9usize {
+        for which in 0..10usize {
             for (place, walk) in [
                 (0usize, false),
                 (1, false),

@@ -1,6 +1,7 @@
 //! Keys at their limits, and searches on short rows.
 
 use order::blend::BlendNumber;
+use order::day::Day;
 use order::keys::{KeyOrder, Placing};
 use order::mark::{LotMark, MarkPart, TooLong};
 use order::rows::rises;
@@ -132,5 +133,58 @@ fn a_row_out_of_order_stops_at_the_first_not_below(rt: HostRuntime) {
     assert_eq!(rt;
         search_linear(&keys[1..4], &BlendNumber::from(30)),
         (1, true)
+    );
+}
+
+#[test]
+fn a_day_is_the_same_as_each_stamp_of_it(rt: HostRuntime) {
+    let places = [
+        (0, (0, 0), Ordering::Equal),
+        (0, (0, u16::MAX), Ordering::Equal),
+        (0, (1, 0), Ordering::Less),
+        (7, (6, u16::MAX), Ordering::Greater),
+        (7, (7, 0), Ordering::Equal),
+        (7, (7, u16::MAX), Ordering::Equal),
+        (7, (8, 0), Ordering::Less),
+        (u32::MAX, (u32::MAX, 0), Ordering::Equal),
+        (u32::MAX, (u32::MAX, u16::MAX), Ordering::Equal),
+        (u32::MAX, (u32::MAX - 1, u16::MAX), Ordering::Greater),
+    ];
+    for (day, stamp, placed) in places {
+        assert_eq!(rt;
+            Day::from(day).place(&BatchStamp::from(stamp)),
+            placed,
+            "day {day} at {stamp:?}"
+        );
+    }
+}
+
+#[test]
+fn a_day_is_found_at_its_first_stamp(rt: HostRuntime) {
+    let keys = [(3, 0), (4, 0), (4, 1), (4, 7), (5, 0)].map(BatchStamp::from);
+    let answers = [
+        (2, 0, false, 1),
+        (3, 0, true, 1),
+        (4, 1, true, 2),
+        (5, 4, true, 5),
+        (6, 5, false, 5),
+    ];
+    for (day, index, found, made) in answers {
+        let day = Day::from(day);
+        let result = if found {
+            SearchResult::Found(index)
+        } else {
+            SearchResult::GoDown(index)
+        };
+        assert_eq!(rt; search_linear(&keys, &day), (index, found), "at {day}");
+        assert_eq!(rt; search_node(&keys, &day), (result, made), "at {day}");
+    }
+    let limits = [(0, 0), (0, u16::MAX), (u32::MAX, 0), (u32::MAX, u16::MAX)].map(BatchStamp::from);
+    assert_eq!(rt; search_linear(&limits, &Day::from(0)), (0, true));
+    assert_eq!(rt; search_linear(&limits, &Day::from(1)), (2, false));
+    assert_eq!(rt; search_linear(&limits, &Day::from(u32::MAX)), (2, true));
+    assert_eq!(rt;
+        search_linear(&limits[0..2], &Day::from(u32::MAX)),
+        (2, false)
     );
 }

@@ -1,28 +1,34 @@
 -- What a cut makes of a book, and what a lookup and a count answer. Assumes nothing.
-use Rattle.std.proofs.Common.{◌≡◌, ◌≢◌, ℕ, ◌+◌, ◌<◌, ◌≤◌, Bool, true, false, List, [], ◌∷◌, length, nat_lt, None, Ok, Err, All, Option, Ordering, Equal, refl, ap, subst, sym, arith, ◌∙◌, length-append, append-nil}
-use Rattle.std.specs.Ordering.{is_lt, is_gt}
+use Rattle.std.proofs.Common.{◌≡◌, ◌≢◌, ℕ, ◌+◌, ◌<◌, ◌≤◌, Bool, true, false, cond, List, [], ◌∷◌, ◌++◌, length, nat_lt, None, Ok, Err, All, Option, Ordering, Less, Equal, Greater, refl, ap, subst, sym, arith, ◌∙◌, length-append, append-nil}
+use Rattle.std.specs.Ordering.{is_lt, is_gt, is_eq}
 use Rattle.std.proofs.lemmas.Bool.{false≢true, cond_both, ltb-true, ltb-false}
-use Rattle.std.proofs.lemmas.List.Elements.{All-nil}
+use Rattle.std.proofs.lemmas.List.Elements.{All-nil, All-head, All-tail, filter-append}
+use Rattle.order.specs.Laws.{Ordered}
 use Rattle.node.specs.Shape.{Tree, flat, Formed}
 use Rattle.node.specs.Store.{first}
 use Rattle.node.proofs.Sorting.{sorted_rises}
 use Rattle.map.specs.Lookup.{InOrder, seek, looks, value_of}
-use Rattle.map.proofs.Finds.{lookup_bound}
+use Rattle.map.specs.Least.{first_same, LeastIn}
+use Rattle.map.proofs.Finds.{lookup_bound, lookup_alone}
+use Rattle.map.proofs.Leasts.{least_stands}
 use Rattle.parts.specs.Rules.{left_part, right_part, cuts}
 use Rattle.parts.proofs.Mends.{cut_formed, cut_parts, cut_sorted}
 use Rattle.parts.proofs.Searches.{cut_bound}
 use Rattle.books.specs.declared.calls.Answer.{Answer}
-use Rattle.books.specs.declared.calls.Answer.TheVariants.{Found, Counted, Parted}
+use Rattle.books.specs.declared.calls.Answer.TheVariants.{Found, Least as LeastIs, Counted, Parted}
 use Rattle.books.specs.Books.{Book, bare, planted, walked, idle, entries}
 use Rattle.books.specs.Refusals.{Code}
-use Rattle.books.specs.Rules.{Query, Parts, kind_of, is_map, tree_book, lookup_in, part_tree, cut_in}
-use Rattle.books.specs.Meaning.{Sound, Agrees, LookupMeans, CountMeans, CutMeans}
+use Rattle.books.specs.Rules.{Query, Parts, kind_of, is_map, tree_book, lookup_in, least_in, part_tree, cut_in}
+use Rattle.books.specs.Meaning.{Sound, Agrees, AtOne, same_as, LookupMeans, LeastMeans, CountMeans, CutMeans}
 use Rattle.books.specs.Runs.{inserted, handed, dropped}
 use Rattle.books.proofs.Agreeing.{downward, finds}
 use Rattle.books.proofs.Keeping.{ok_err, err_ok, ok_same}
 
 found_same : {K V : Type 0} (x y : Option V) (m n : ℕ) → ◌≡◌ {A = Answer K V} (Found x m) (Found y n) → (x ≡ y) × (m ≡ n)
 found_same x y m n q = (cc, cc)
+
+least_same : {K V : Type 0} (x y : Option (K × V)) → ◌≡◌ {A = Answer K V} (LeastIs x) (LeastIs y) → x ≡ y
+least_same x y q = cc
 
 parted_same : {K V : Type 0} (i j k l m n : ℕ) → ◌≡◌ {A = Answer K V} (Parted i j k) (Parted l m n) → (i ≡ l) × (j ≡ m) × (k ≡ n)
 parted_same i j k l m n q = (cc, cc, cc)
@@ -37,28 +43,66 @@ pub record Halved {K V : Type 0} (compares : K → K → Ordering) (b : Book (K 
   pub even : length (entries (q.1).0) + length (entries (q.1).1) + (handed q.0 + dropped q.0) ≡ length (entries b) + inserted q.0
   pub refused : (e : Code) → q.0 ≡ Err e → ((q.1).0 ≡ b) × ((q.1).1 ≡ bare)
 
+-- of what is parted by a query, all that is the same as the query stands right
+not_eq : (o : Ordering) → is_gt o ≡ true → is_eq o ≡ false
+not_eq Less g = refl
+not_eq Equal g = absurd (false≢true g)
+not_eq Greater g = refl
+
+none_same : {K V : Type 0} (place : Query K) (l : List (K × V)) → All (λ y. is_gt (place (first y)) ≡ true) l → same_as place l ≡ []
+none_same place [] g = refl
+none_same place (e ∷ es) g =
+    ap (λ f. cond f (e ∷ same_as place es) (same_as place es)) (not_eq (place (first e)) (All-head (λ y. is_gt (place (first y)) ≡ true) e es g))
+    ∙ none_same place es (All-tail (λ y. is_gt (place (first y)) ≡ true) e es g)
+
+same_right : {K V : Type 0} (place : Query K) (l m es : List (K × V)) → All (λ y. is_gt (place (first y)) ≡ true) l → l ++ m ≡ es → (same_as place l ≡ []) × (same_as place m ≡ same_as place es)
+same_right place l m es g q =
+    let n = none_same place l g in
+    (n, ap (λ x. x ++ same_as place m) (sym n) ∙ sym (filter-append (λ y. is_eq (place (first y))) l m) ∙ ap (same_as place) q)
+
 module _ {K V : Type 0} (compares : K → K → Ordering) where
   -- ---- a count, and a lookup
 
   pub count_means : (a : ℕ) (b : Book (K × V)) → CountMeans compares a b b (Ok (Counted (length (entries b))))
   count_means a b = record { answers = refl; unchanged = refl }
 
-  pub lookup_means : (a : ℕ) (place : Query K) → Agrees compares place → (b : Book (K × V)) → is_map (kind_of b) ≡ true → Sound compares b → LookupMeans compares a b b (lookup_in place b) place
-  lookup_means a place g bare m s = record {
+  -- of entries in order no two are the same as a query at one place
+  only : Ordered compares → (place : Query K) → AtOne compares place → (l : List (K × V)) → InOrder compares l → (ante post : List (K × V)) (e : K × V) → l ≡ ante ++ e ∷ post → place (first e) ≡ Equal
+      → All (λ y. place (first y) ≢ Equal) ante × All (λ y. place (first y) ≢ Equal) post
+  only ordered place g l s ante post e q h = lookup_alone {Q = Unit {0}} compares (λ u. place) tt ordered (record { single = λ u. g.single }) ante e post (subst (InOrder compares) q s) h
+
+  pub lookup_means : Ordered compares → (a : ℕ) (place : Query K) → AtOne compares place → (b : Book (K × V)) → is_map (kind_of b) ≡ true → Sound compares b → LookupMeans compares a b b (lookup_in place b) place
+  lookup_means ordered a place g bare m s = record {
     answers = (None, 0, refl);
     finds = λ o n r. (None, sym (found_same None o 0 n (ok_same (Found None 0) (Found o n) r)).0, All-nil (λ y. place (first y) ≢ Equal));
+    alone = only ordered place g [] tt;
     bound = λ o n r. omega (arith, (found_same None o 0 n (ok_same (Found None 0) (Found o n) r)).1);
   }
-  lookup_means a place g (planted h t) m s =
+  lookup_means ordered a place g (planted h t) m s =
       let x : Option (K × V) = seek (λ e. place (first e)) h t in
       let l : ℕ = looks (λ e. place (first e)) h t in
       record {
         answers = (value_of x, l, refl);
-        finds = λ o n r. (x, sym (found_same (value_of x) o l n (ok_same (Found (value_of x) l) (Found o n) r)).0, finds g h t s.0 s.1);
+        finds = λ o n r. (x, sym (found_same (value_of x) o l n (ok_same (Found (value_of x) l) (Found o n) r)).0, finds g.agrees h t s.0 s.1);
+        alone = only ordered place g (flat h t) s.1;
         bound = λ o n r. omega (arith, (found_same (value_of x) o l n (ok_same (Found (value_of x) l) (Found o n) r)).1, lookup_bound (λ e. place (first e)) h t s.0);
       }
-  lookup_means a place g (walked h t) m s = absurd (false≢true m)
-  lookup_means a place g idle m s = absurd (false≢true m)
+  lookup_means ordered a place g (walked h t) m s = absurd (false≢true m)
+  lookup_means ordered a place g idle m s = absurd (false≢true m)
+
+  least_answer : (a : ℕ) (place : Query K) (b : Book (K × V)) (x : Option (K × V)) → LeastIn (λ y. place (first y)) (entries b) x → LeastMeans compares a b b (Ok (LeastIs x)) place
+  least_answer a place b x l = record {
+    answers = (x, refl);
+    least = λ y r. subst (LeastIn (λ y. place (first y)) (entries b)) (least_same x y (ok_same (LeastIs x) (LeastIs y) r)) l;
+  }
+
+  pub least_means : (a : ℕ) (place : Query K) → Agrees compares place → (b : Book (K × V)) → is_map (kind_of b) ≡ true → Sound compares b → LeastMeans compares a b b (least_in place b) place
+  least_means a place g bare m s = least_answer a place bare None (All-nil (λ y. place (first y) ≢ Equal))
+  least_means a place g (planted h t) m s =
+      least_answer a place (planted h t) (first_same (λ e. place (first e)) (flat h t))
+      (least_stands {Q = Unit {0}} compares (λ u. place) tt (flat h t) (record { under = λ u. g.under; over = λ u. g.over }) s.1)
+  least_means a place g (walked h t) m s = absurd (false≢true m)
+  least_means a place g idle m s = absurd (false≢true m)
 
   -- ---- a cut
 
@@ -81,6 +125,7 @@ module _ {K V : Type 0} (compares : K → K → Ordering) where
         (omega (arith, p.0, ap length q), omega (arith, p.1), omega (arith, p.2));
     below = λ l m n r. subst (λ y. All (λ y. is_gt (place (first y)) ≡ true) y) (sym q) (All-nil (λ y. is_gt (place (first y)) ≡ true));
     not_below = λ l m n r. All-nil (λ y. is_gt (place (first y)) ≡ false);
+    same = λ l m n r. (ap (same_as place) q, sym (ap (same_as place) q));
   }
 
   module _ (fresh : ℕ → ℕ) (a : ℕ) (place : Query K) (h : ℕ) (t : Tree (K × V)) (w : Formed h t) (s : InOrder compares (flat h t)) where
@@ -126,6 +171,7 @@ module _ {K V : Type 0} (compares : K → K → Ordering) where
       whole = λ i j k v. absurd (err_ok (Parted i j k) (6, (h + 1) ∷ a ∷ []) v);
       counts = λ i j k v. absurd (err_ok (Parted i j k) (6, (h + 1) ∷ a ∷ []) v);
       below = λ i j k v. absurd (err_ok (Parted i j k) (6, (h + 1) ∷ a ∷ []) v);
+      same = λ i j k v. absurd (err_ok (Parted i j k) (6, (h + 1) ∷ a ∷ []) v);
       not_below = λ i j k v. absurd (err_ok (Parted i j k) (6, (h + 1) ∷ a ∷ []) v);
     }
 
@@ -145,6 +191,7 @@ module _ {K V : Type 0} (compares : K → K → Ordering) where
               (sym c.0, sym c.1, omega (arith, c.2, cut_bound (λ y. place (first y)) h t w));
           below = λ i j k v. sides.0;
           not_below = λ i j k v. sides.1;
+          same = λ i j k v. same_right place (flat l.0 l.1) (flat r.0 r.1) (flat h t) sides.0 p.0;
         }
 
     part_means : Agrees compares place → (es : List (K × V)) → flat h t ≡ es → Cut (part_tree fresh a place h t es)

@@ -8,11 +8,11 @@ use Rattle.node.specs.Shape.{Tree, flat}
 use Rattle.map.specs.Lookup.{seek}
 use Rattle.walk.specs.Steps.{step}
 use Rattle.books.specs.declared.calls.Answer.{Answer}
-use Rattle.books.specs.declared.calls.Call.TheVariants.{Insert, Lookup, Count, Cut, Open, Step, Close, Release, Audit}
+use Rattle.books.specs.declared.calls.Call.TheVariants.{Insert, Lookup, Least, Count, Cut, Open, Step, Close, Release, Audit}
 use Rattle.books.specs.Books.{Book, bare, planted, walked, idle, book_in}
 use Rattle.books.specs.Laws.{RuleNumbers, Numbered}
 use Rattle.books.specs.Refusals.{Code}
-use Rattle.books.specs.Rules.{Asked, Query, Kind, kind_of, is_map, is_walk, is_bare, check, check_one, checked, act, no_place, wrong_kind, insert_in, put_in, lookup_in, cut_in, part_tree, open_in, step_in, handed_in, beside_key}
+use Rattle.books.specs.Rules.{Asked, Query, Kind, kind_of, is_map, is_walk, is_bare, check, check_one, checked, act, no_place, wrong_kind, insert_in, put_in, lookup_in, least_in, cut_in, part_tree, open_in, step_in, handed_in, beside_key}
 use Rattle.books.proofs.Keeping.{ok_err}
 
 err_same : {X : Type 0} (d e : Code) → ◌≡◌ {A = Result X Code} (Err d) (Err e) → d ≡ e
@@ -74,6 +74,12 @@ module _ {K V : Type 0} where
     fine_lookup place (walked h t) = fine_kind
     fine_lookup place idle = fine_kind
 
+    fine_least : (place : Query K) (b : Book (K × V)) → Fine (least_in {V = V} place b)
+    fine_least place bare = fine_ok _
+    fine_least place (planted h t) = fine_ok _
+    fine_least place (walked h t) = fine_kind
+    fine_least place idle = fine_kind
+
     fine_part : (place : Query K) (h : ℕ) (t : Tree (K × V)) (l : List (K × V)) → Fine (part_tree fresh a place h t l).0
     fine_part place h t [] = fine_ok _
     fine_part place h t (e ∷ es) = fine_within (h + 1) a (planted h t, bare) _ (fine_ok _)
@@ -103,6 +109,7 @@ module _ {K V : Type 0} where
     fine_act : (c : Asked K V) (bs : List (Book (K × V))) → Fine (act compares fresh top a c bs).answer
     fine_act (Insert p k v) bs = fine_insert (k, v) (book_in bs p)
     fine_act (Lookup p place) bs = fine_lookup place (book_in bs p)
+    fine_act (Least p place) bs = fine_least place (book_in bs p)
     fine_act (Count p) bs = fine_ok _
     fine_act (Cut p o place) bs = fine_cut place (book_in bs p)
     fine_act (Open p) bs = fine_open (book_in bs p)
@@ -114,6 +121,7 @@ module _ {K V : Type 0} where
   checked_any : (kinds : ℕ → Kind) (c : Asked K V) → Checked (check kinds c)
   checked_any kinds (Insert p k v) = checked_one kinds is_map p
   checked_any kinds (Lookup p place) = checked_one kinds is_map p
+  checked_any kinds (Least p place) = checked_one kinds is_map p
   checked_any kinds (Count p) = checked_one kinds (λ _. true) p
   checked_any kinds (Cut p o place) =
       both (nat_lt p 16) _ _ (both (nat_lt o 16) _ _ (both (is_map (kinds p)) _ _ (both (is_bare (kinds o)) _ _ (both (nat_eq p o) _ _ wrong passes) wrong) wrong) far) far

@@ -2,12 +2,12 @@
 use Rattle.std.proofs.Common.{◌≡◌, ◌≢◌, ℕ, ◌+◌, ◌<◌, true, List, length, slice_set, Some, None, Ok, Err, All, Option, Result, Ordering, refl, ap, subst, sym, arith, ◌∙◌}
 use Rattle.std.proofs.lemmas.Option.{none-some, same_Some}
 use Rattle.order.specs.Laws.{Ordered}
-use Rattle.books.specs.declared.calls.Call.TheVariants.{Insert, Lookup, Count, Cut, Open, Step, Close, Release, Audit}
+use Rattle.books.specs.declared.calls.Call.TheVariants.{Insert, Lookup, Least, Count, Cut, Open, Step, Close, Release, Audit}
 use Rattle.books.specs.declared.calls.Answer.{Answer}
 use Rattle.books.specs.declared.calls.Answer.TheVariants.{Counted, Audited}
 use Rattle.books.specs.Books.{Book, bare, planted, walked, idle, entries, book_in}
 use Rattle.books.specs.Refusals.{Code}
-use Rattle.books.specs.Rules.{Query, Asked, Kind, kind_of, is_map, is_walk, check, Outcome, Part, Parts, placed, parted, insert_in, lookup_in, cut_in, open_in, step_in, drop_in, act, checked}
+use Rattle.books.specs.Rules.{Query, Asked, Kind, kind_of, is_map, is_walk, check, Outcome, Part, Parts, placed, parted, insert_in, lookup_in, least_in, cut_in, open_in, step_in, drop_in, act, checked}
 use Rattle.books.specs.Meaning.{Sound, Agreeing, InsertMeans, OpenMeans, StepMeans, DropMeans, CutMeans, Means}
 use Rattle.books.specs.Runs.{count_all, inserted, handed, dropped}
 use Rattle.books.specs.Laws.{RuleSound, RuleMeans, RuleEven}
@@ -15,7 +15,7 @@ use Rattle.books.proofs.Placing.{sixteen, there, elsewhere, replaced, all_replac
 use Rattle.books.proofs.Keeping.{Kept}
 use Rattle.books.proofs.Inserting.{insert_kept, insert_means}
 use Rattle.books.proofs.Stepping.{open_kept, open_means, step_kept, step_means, drop_kept, drop_means}
-use Rattle.books.proofs.Cutting.{Halved, count_means, lookup_means, cut_halved, cut_means}
+use Rattle.books.proofs.Cutting.{Halved, count_means, lookup_means, least_means, cut_halved, cut_means}
 
 -- a lookup changes nothing, and hands out and drops nothing
 lookup_plain : {K V : Type 0} (place : Query K) (b : Book (K × V)) → handed (lookup_in place b) + dropped (lookup_in place b) ≡ inserted (lookup_in place b)
@@ -23,6 +23,12 @@ lookup_plain place bare = refl
 lookup_plain place (planted h t) = refl
 lookup_plain place (walked h t) = refl
 lookup_plain place idle = refl
+
+least_plain : {K V : Type 0} (place : Query K) (b : Book (K × V)) → handed (least_in place b) + dropped (least_in place b) ≡ inserted (least_in place b)
+least_plain place bare = refl
+least_plain place (planted h t) = refl
+least_plain place (walked h t) = refl
+least_plain place idle = refl
 
 module _ {K V : Type 0} (compares : K → K → Ordering) where
   abbrev SoundAll : List (Book (K × V)) → Type 0
@@ -114,6 +120,7 @@ module _ {K V : Type 0} (compares : K → K → Ordering) where
           let l = (one_passes (kinds bs) is_map p q).low in
           placed_stays p l (insert_in compares fresh top a (k, v) (book_in bs p)) (insert_at k v p l)
       act_stays (Lookup p place) q = (long, s)
+      act_stays (Least p place) q = (long, s)
       act_stays (Count p) q = (long, s)
       act_stays (Cut p o place) q =
           let two = two_pass (kinds bs) p o q in
@@ -133,6 +140,7 @@ module _ {K V : Type 0} (compares : K → K → Ordering) where
           let l = (one_passes (kinds bs) is_map p q).low in
           placed_even p l (insert_in compares fresh top a (k, v) (book_in bs p)) (insert_at k v p l)
       act_even (Lookup p place) q = ap (λ n. count_all bs + n) (lookup_plain place (book_in bs p))
+      act_even (Least p place) q = ap (λ n. count_all bs + n) (least_plain place (book_in bs p))
       act_even (Count p) q = refl
       act_even (Cut p o place) q =
           let two = two_pass (kinds bs) p o q in
@@ -183,7 +191,15 @@ module _ {K V : Type 0} (compares : K → K → Ordering) where
             refused = λ e r. refl;
             checked = none_checked (Lookup p place) (lookup_in place (book_in bs p)) q;
             others = λ y n. refl;
-            answered = λ r. lookup_means compares a place g (book_in bs p) one.kind (sound_at p one.low);
+            answered = λ r. lookup_means compares ordered a place g (book_in bs p) one.kind (sound_at p one.low);
+          }
+      act_means (Least p place) g q =
+          let one = one_passes (kinds bs) is_map p q in
+          record {
+            refused = λ e r. refl;
+            checked = none_checked (Least p place) (least_in place (book_in bs p)) q;
+            others = λ y n. refl;
+            answered = λ r. least_means compares a place g (book_in bs p) one.kind (sound_at p one.low);
           }
       act_means (Count p) g q = record {
         refused = λ e r. refl;

@@ -4,12 +4,14 @@
 --   calls a cs d    one after the other
 --   told r          the numbers of an answer
 --   line d          the nodes that are out, with the numbers of the last answer; and the rows of the first two books, each node before its children
+--   by_fours d      a query that is the same as each of four keys in a row
 --   sown ks         these keys put into the first place
 --   twelve          T: the keys 1 to 12 in order
 --   even            the keys 2, 4, .. 22 in order
 --   walking d       opened, and seven entries handed out from the front
 --   Worked t        the worked calls, with t for T
-use Rattle.std.specs.Prelude.{◌≡◌, ℕ, List, [], ◌∷◌, Some, None, Ok, Err, Result, map, replicate}
+use Rattle.std.specs.Prelude.{◌≡◌, ℕ, ◌/◌, List, [], ◌∷◌, Some, None, Ok, Err, Result, map, replicate}
+use Rattle.std.specs.declared.cmp.Ordering.{Ordering}
 use Rattle.std.specs.Ordering.{nat_cmp}
 use Rattle.node.specs.declared.ends.Side.TheVariants.{First, Last}
 use Rattle.node.specs.Cases.{count}
@@ -17,9 +19,9 @@ use Rattle.node.specs.Shape.{Tree, total, weigh}
 use Rattle.rules.specs.Cases.{rows}
 use Rattle.parts.specs.Cases.{two}
 use Rattle.parts.specs.Rules.{repair}
-use Rattle.books.specs.declared.calls.Call.TheVariants.{Insert, Cut, Open, Step, Close}
+use Rattle.books.specs.declared.calls.Call.TheVariants.{Insert, Cut, Least, Open, Step, Close}
 use Rattle.books.specs.declared.calls.Answer.{Answer}
-use Rattle.books.specs.declared.calls.Answer.TheVariants.{Inserted, Found, Counted, Parted, Opened, Handed, Dropped, Audited}
+use Rattle.books.specs.declared.calls.Answer.TheVariants.{Inserted, Found, Least as LeastIs, Counted, Parted, Opened, Handed, Dropped, Audited}
 use Rattle.books.specs.Books.{Book, bare, planted, walked, idle, book_in, weigh_in}
 use Rattle.books.specs.Refusals.{Code}
 use Rattle.books.specs.Rules.{Asked, Outcome, outcome, rule}
@@ -40,6 +42,8 @@ told (Ok (Inserted None)) = []
 told (Ok (Inserted (Some v))) = v ∷ []
 told (Ok (Found None n)) = n ∷ []
 told (Ok (Found (Some v) n)) = v ∷ n ∷ []
+told (Ok (LeastIs None)) = []
+told (Ok (LeastIs (Some e))) = e.0 ∷ []
 told (Ok (Counted n)) = n ∷ []
 told (Ok (Parted l r n)) = l ∷ r ∷ n ∷ []
 told (Ok Opened) = []
@@ -76,6 +80,9 @@ put k = Insert 0 k k
 abbrev pub cut_at : ℕ → Asked ℕ ℕ
 cut_at k = Cut 0 1 (nat_cmp k)
 
+abbrev pub by_fours : ℕ → ℕ → Ordering
+by_fours d k = nat_cmp d (k / 4)
+
 abbrev pub sown : List ℕ → Desk
 sown ks = calls 64 (map put ks) (outcome (Ok Opened) (replicate 16 bare))
 
@@ -106,6 +113,9 @@ Worked t =
     ∷ line (call 64 (cut_at 13) t)
     ∷ line (call 64 (cut_at 1) t)
     ∷ line (call 1 (cut_at 7) t)
+    ∷ line (call 64 (Cut 0 1 (by_fours 1)) t)
+    ∷ line (call 64 (Least 0 (by_fours 1)) t)
+    ∷ line (call 64 (Least 0 (by_fours 5)) t)
     ∷ mended_line (two 11 0)
     ∷ mended_line (two 5 5)
     ∷ mended_line (two 5 6)
@@ -122,6 +132,9 @@ Worked t =
     ∷ line_of 4 (12 ∷ 0 ∷ 6 ∷ []) ((6 ∷ []) ∷ count 5 1 1 ∷ count 6 7 1 ∷ []) ([] ∷ [])
     ∷ line_of 4 (0 ∷ 12 ∷ 2 ∷ []) ([] ∷ []) ((7 ∷ []) ∷ count 6 1 1 ∷ count 5 8 1 ∷ [])
     ∷ line_of 3 (6 ∷ 2 ∷ 1 ∷ []) ((7 ∷ []) ∷ count 6 1 1 ∷ count 5 8 1 ∷ []) []
+    ∷ line_of 2 (3 ∷ 9 ∷ 5 ∷ []) (count 3 1 1 ∷ []) (count 9 4 1 ∷ [])
+    ∷ line_of 3 (4 ∷ []) ((7 ∷ []) ∷ count 6 1 1 ∷ count 5 8 1 ∷ []) []
+    ∷ line_of 3 [] ((7 ∷ []) ∷ count 6 1 1 ∷ count 5 8 1 ∷ []) []
     ∷ line_of 3 [] ((6 ∷ []) ∷ count 5 1 1 ∷ count 6 7 1 ∷ []) []
     ∷ line_of 1 [] (count 11 1 1 ∷ []) []
     ∷ line_of 3 [] ((6 ∷ []) ∷ count 5 1 1 ∷ count 6 7 1 ∷ []) []

@@ -1,25 +1,29 @@
 -- What the rules mean for the lists of the books, in the words of an ordered map.
 --   Sound b          a tree is formed, a walk has one child more than entries in each node above the leaves, and the keys of the list rise
 --   Agrees place     a query goes with the order of the keys
---   Agreeing c       so does the query of a call, if it has one
+--   AtOne place      and it stands at one place
+--   Agreeing c       the query of a call, if it has one: that of a lookup does both, and any other goes with the order
 --   height_in b      the height of its tree
 --   Gains e l l'     the list l gains the entry e in its place, and nothing else
+--   same_as place l  the entries of the list l that are the same as the query
 --   Answered         what an answer means for the lists before and after, one definition for each call
 --   Untouched        the places that a call leaves alone
 --   Means            that, and that a refusal changes nothing and that no other book is changed
 use Rattle.std.specs.Prelude.{◌≡◌, ℕ, ◌+◌, ◌*◌, ◌<◌, ◌≤◌, true, false, List, [], ◌∷◌, ◌++◌, length, Some, None, Ok, Err, All, Option, Result, ◌≢◌, ◌⊎◌}
 use Rattle.std.specs.declared.cmp.Ordering.{Ordering}
 use Rattle.std.specs.declared.cmp.Ordering.TheVariants.{Less, Equal, Greater}
-use Rattle.std.specs.Ordering.{is_gt, is_le}
+use Rattle.std.specs.List.{filter}
+use Rattle.std.specs.Ordering.{is_gt, is_le, is_eq}
 use Rattle.node.specs.declared.ends.Side.{Side}
 use Rattle.node.specs.Shape.{flat, Formed}
 use Rattle.node.specs.Store.{first, second}
 use Rattle.map.specs.Lookup.{Sought, value_of, InOrder}
+use Rattle.map.specs.Least.{LeastIn}
 use Rattle.map.specs.Replacing.{Altered}
 use Rattle.walk.specs.Steps.{cons, Fanned}
-use Rattle.books.specs.declared.calls.Call.TheVariants.{Insert, Lookup, Count, Cut, Open, Step, Close, Release, Audit}
+use Rattle.books.specs.declared.calls.Call.TheVariants.{Insert, Lookup, Least, Count, Cut, Open, Step, Close, Release, Audit}
 use Rattle.books.specs.declared.calls.Answer.{Answer}
-use Rattle.books.specs.declared.calls.Answer.TheVariants.{Inserted, Found, Counted, Parted, Opened, Handed, Dropped, Audited}
+use Rattle.books.specs.declared.calls.Answer.TheVariants.{Inserted, Found, Least as LeastIs, Counted, Parted, Opened, Handed, Dropped, Audited}
 use Rattle.books.specs.Books.{Book, bare, planted, walked, idle, entries, book_in}
 use Rattle.books.specs.Refusals.{Code}
 use Rattle.books.specs.Rules.{Query, Asked, kind_of, is_map, is_walk, check}
@@ -35,9 +39,15 @@ pub record Agrees {K : Type 0} (compares : K → K → Ordering) (place : Query 
   pub under : (a b : K) → is_le (compares a b) ≡ true → place a ≡ Less → place b ≡ Less
   pub over : (a b : K) → is_le (compares a b) ≡ true → place b ≡ Greater → place a ≡ Greater
 
+-- the keys that it is the same as are the same as each other
+pub record AtOne {K : Type 0} (compares : K → K → Ordering) (place : Query K) : Type 0 where
+  pub agrees : Agrees compares place
+  pub single : (a b : K) → place a ≡ Equal → place b ≡ Equal → compares a b ≡ Equal
+
 abbrev pub Agreeing : {K V : Type 0} → (K → K → Ordering) → Asked K V → Type 0
 Agreeing compares (Insert p k v) = Unit {0}
-Agreeing compares (Lookup p place) = Agrees compares place
+Agreeing compares (Lookup p place) = AtOne compares place
+Agreeing compares (Least p place) = Agrees compares place
 Agreeing compares (Count p) = Unit {0}
 Agreeing compares (Cut p o place) = Agrees compares place
 Agreeing compares (Open p) = Unit {0}
@@ -58,6 +68,9 @@ pub record Gains {E : Type 0} (e : E) (l l' : List E) : Type 0 where
   pub was : l ≡ ante ++ post
   pub now_is : l' ≡ ante ++ e ∷ post
 
+abbrev pub same_as : {K V : Type 0} → Query K → List (K × V) → List (K × V)
+same_as place l = filter (λ y. is_eq (place (first y))) l
+
 module _ {K V : Type 0} (compares : K → K → Ordering) (a : ℕ) (b b' : Book (K × V)) (r : Result (Answer K V) Code) where
   -- an entry of no key that is there, or another value under the key that is. Refused only where the key is not there and too few numbers may be taken
   pub record InsertMeans (e : K × V) : Type 0 where
@@ -68,11 +81,17 @@ module _ {K V : Type 0} (compares : K → K → Ordering) (a : ℕ) (b b' : Book
     pub old : (v : V) → r ≡ Ok (Inserted (Some v))
         → (x : K × V) × (compares (first e) (first x) ≡ Equal) × (second x ≡ v) × Altered (λ y. (first y, second e)) x (entries b) (entries b')
 
-  -- the value of an entry whose key is the same as the query, or none where there is no such entry
+  -- the value of the one entry whose key is the same as the query, or none where there is no such entry
   pub record LookupMeans (place : Query K) : Type 0 where
     pub answers : (o : Option V) × (n : ℕ) × (r ≡ Ok (Found o n))
     pub finds : (o : Option V) (n : ℕ) → r ≡ Ok (Found o n) → (x : Option (K × V)) × (o ≡ value_of x) × Sought (λ y. place (first y)) (entries b) x
+    pub alone : (ante post : List (K × V)) (e : K × V) → entries b ≡ ante ++ e ∷ post → place (first e) ≡ Equal → All (λ y. place (first y) ≢ Equal) ante × All (λ y. place (first y) ≢ Equal) post
     pub bound : (o : Option V) (n : ℕ) → r ≡ Ok (Found o n) → n ≤ 11 * (height_in b + 1)
+
+  -- the least entry that is the same as the query, or none where there is no such entry
+  pub record LeastMeans (place : Query K) : Type 0 where
+    pub answers : (x : Option (K × V)) × (r ≡ Ok (LeastIs x))
+    pub least : (x : Option (K × V)) → r ≡ Ok (LeastIs x) → LeastIn (λ y. place (first y)) (entries b) x
 
   -- the entry at that end of the list, or none where nothing is left
   pub record StepMeans (s : Side) : Type 0 where
@@ -104,11 +123,14 @@ module _ {K V : Type 0} (compares : K → K → Ordering) (a : ℕ) (b b' : Book
     pub counts : (l m n : ℕ) → r ≡ Ok (Parted l m n) → (l ≡ length (entries b')) × (m ≡ length (entries d')) × (n ≤ 11 * (height_in b + 1))
     pub below : (l m n : ℕ) → r ≡ Ok (Parted l m n) → All (λ y. is_gt (place (first y)) ≡ true) (entries b')
     pub not_below : (l m n : ℕ) → r ≡ Ok (Parted l m n) → All (λ y. is_gt (place (first y)) ≡ false) (entries d')
+    -- all that are the same as the query go right, however many they are
+    pub same : (l m n : ℕ) → r ≡ Ok (Parted l m n) → (same_as place (entries b') ≡ []) × (same_as place (entries d') ≡ same_as place (entries b))
 
 module _ {K V : Type 0} (compares : K → K → Ordering) (a : ℕ) (bs bs' : List (Book (K × V))) (r : Result (Answer K V) Code) where
   abbrev pub Answered : Asked K V → Type 0
   Answered (Insert p k v) = InsertMeans compares a (book_in bs p) (book_in bs' p) r (k, v)
   Answered (Lookup p place) = LookupMeans compares a (book_in bs p) (book_in bs' p) r place
+  Answered (Least p place) = LeastMeans compares a (book_in bs p) (book_in bs' p) r place
   Answered (Count p) = CountMeans compares a (book_in bs p) (book_in bs' p) r
   Answered (Cut p o place) = CutMeans compares a (book_in bs p) (book_in bs' p) r (book_in bs' o) place
   Answered (Open p) = OpenMeans compares a (book_in bs p) (book_in bs' p) r
@@ -121,6 +143,7 @@ module _ {K V : Type 0} (compares : K → K → Ordering) (a : ℕ) (bs bs' : Li
   abbrev pub Untouched : Asked K V → ℕ → Type 0
   Untouched (Insert p k v) x = x ≢ p
   Untouched (Lookup p place) x = Unit {0}
+  Untouched (Least p place) x = Unit {0}
   Untouched (Count p) x = Unit {0}
   Untouched (Cut p o place) x = (x ≢ p) × (x ≢ o)
   Untouched (Open p) x = x ≢ p

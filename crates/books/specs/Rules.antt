@@ -15,15 +15,16 @@ use Rattle.node.specs.Shape.{Tree, mk, flat}
 use Rattle.node.specs.Store.{first, second}
 use Rattle.rules.specs.Rules.{insert, need}
 use Rattle.map.specs.Lookup.{seek, looks, value_of}
+use Rattle.map.specs.Least.{first_same}
 use Rattle.map.specs.Replacing.{amend}
 use Rattle.parts.specs.Rules.{left_part, right_part, cuts}
 use Rattle.walk.specs.Steps.{step}
 use Rattle.books.specs.declared.places.Place.{Place}
 use Rattle.books.specs.declared.places.Place.TheVariants as P
 use Rattle.books.specs.declared.calls.Call.{Call}
-use Rattle.books.specs.declared.calls.Call.TheVariants.{Insert, Lookup, Count, Cut, Open, Step, Close, Release, Audit}
+use Rattle.books.specs.declared.calls.Call.TheVariants.{Insert, Lookup, Least, Count, Cut, Open, Step, Close, Release, Audit}
 use Rattle.books.specs.declared.calls.Answer.{Answer}
-use Rattle.books.specs.declared.calls.Answer.TheVariants.{Inserted, Found, Counted, Parted, Opened, Handed, Dropped, Audited}
+use Rattle.books.specs.declared.calls.Answer.TheVariants.{Inserted, Found, Least as LeastIs, Counted, Parted, Opened, Handed, Dropped, Audited}
 use Rattle.books.specs.Books.{Book, bare, planted, walked, idle, entries, book_in}
 use Rattle.books.specs.Refusals.{Code}
 
@@ -31,18 +32,20 @@ abbrev pub Query : Type 0 → Type 0
 Query K = K → Ordering
 
 abbrev pub Asked : Type 0 → Type 0 → Type 0
-Asked K V = Call K V (Query K)
+Asked K V = Call K V (Query K) (Query K)
 
-abbrev pub asked : {K V Q : Type 0} → (Q → Query K) → Call K V Q → Asked K V
-asked places (Insert p k v) = Insert p k v
-asked places (Lookup p q) = Lookup p (places q)
-asked places (Count p) = Count p
-asked places (Cut p o q) = Cut p o (places q)
-asked places (Open p) = Open p
-asked places (Step p s) = Step p s
-asked places (Close p) = Close p
-asked places (Release p) = Release p
-asked places Audit = Audit
+-- a lookup is by a query of its own type
+abbrev pub asked : {K V P Q : Type 0} → (P → Query K) → (Q → Query K) → Call K V P Q → Asked K V
+asked points places (Insert p k v) = Insert p k v
+asked points places (Lookup p q) = Lookup p (points q)
+asked points places (Least p q) = Least p (places q)
+asked points places (Count p) = Count p
+asked points places (Cut p o q) = Cut p o (places q)
+asked points places (Open p) = Open p
+asked points places (Step p s) = Step p s
+asked points places (Close p) = Close p
+asked points places (Release p) = Release p
+asked points places Audit = Audit
 
 -- ---- the checks of places
 
@@ -96,9 +99,10 @@ check_two kinds p o =
     no_place)
     no_place
 
-abbrev pub check : {K V Q : Type 0} → (ℕ → Kind) → Call K V Q → Option Code
+abbrev pub check : {K V P Q : Type 0} → (ℕ → Kind) → Call K V P Q → Option Code
 check kinds (Insert p k v) = check_one kinds is_map p
 check kinds (Lookup p q) = check_one kinds is_map p
+check kinds (Least p q) = check_one kinds is_map p
 check kinds (Count p) = check_one kinds (λ _. true) p
 check kinds (Cut p o q) = check_two kinds p o
 check kinds (Open p) = check_one kinds is_map p
@@ -152,6 +156,13 @@ lookup_in place (planted h t) = Ok (Found (value_of (seek (λ e. place (first e)
 lookup_in place (walked h t) = Err (4, [])
 lookup_in place idle = Err (4, [])
 
+-- the first entry of the list that is the same as the query
+abbrev pub least_in : {K V : Type 0} → Query K → Book (K × V) → Result (Answer K V) Code
+least_in place bare = Ok (LeastIs None)
+least_in place (planted h t) = Ok (LeastIs (first_same (λ e. place (first e)) (flat h t)))
+least_in place (walked h t) = Err (4, [])
+least_in place idle = Err (4, [])
+
 -- both parts of a book, at a query
 abbrev pub Parts : Type 0 → Type 0 → Type 0
 Parts K V = Result (Answer K V) Code × (Book (K × V) × Book (K × V))
@@ -197,6 +208,7 @@ module _ {K V : Type 0} (compares : K → K → Ordering) (fresh : ℕ → ℕ) 
   abbrev pub act : Asked K V → List (Book (K × V)) → Outcome K V
   act (Insert p k v) bs = placed p bs (insert_in compares fresh top a (k, v) (book_in bs p))
   act (Lookup p place) bs = outcome (lookup_in place (book_in bs p)) bs
+  act (Least p place) bs = outcome (least_in place (book_in bs p)) bs
   act (Count p) bs = outcome (Ok (Counted (length (entries (book_in bs p))))) bs
   act (Cut p o place) bs = parted p o bs (cut_in fresh a place (book_in bs p))
   act (Open p) bs = placed p bs (open_in (book_in bs p))

@@ -2,15 +2,19 @@
 
 use node::ends::Side;
 
-/// A call on a place, or the audit.
+/// A call on a place, or the audit. A lookup is by a query of type `P`, a cut and the least entry by one of type `Q`.
 #[derive(Clone, Copy, PartialEq, Eq, Debug)]
-pub enum Call<K, V, Q> {
+pub enum Call<K, V, P, Q> {
     Insert {
         place: usize,
         key: K,
         value: V,
     },
     Lookup {
+        place: usize,
+        query: P,
+    },
+    Least {
         place: usize,
         query: Q,
     },
@@ -45,6 +49,8 @@ pub enum Answer<K, V> {
     Inserted(Option<V>),
     /// The value under the key, if there is one, and the comparisons made.
     Found(Option<V>, usize),
+    /// The least entry that is the same as the query, if there is one.
+    Least(Option<(K, V)>),
     /// How many entries there are.
     Counted(usize),
     /// The entries left, the entries right, and the comparisons made.

@@ -5,7 +5,7 @@ ghost use Rattle.std.specs.Prelude.{◌≤◌};
 use crate::dice::Dice;
 use acts::cutting::cut_in;
 use acts::inserting::insert_in;
-use acts::looking::lookup_in;
+use acts::looking::{least_in, lookup_in};
 use acts::walking::{close_in, open_in, release_in, step_in};
 use audit::audits::audit_place;
 use audit::marks::Met;
@@ -149,7 +149,7 @@ impl Ground {
         let heads = &mut heads[MARGIN..MARGIN + count];
         let keys = &mut keys[MARGIN..MARGIN + cells];
         let values = &mut values[MARGIN..MARGIN + cells];
-        match dice.below(8) {
+        match dice.below(9) {
             0 => {
                 let _ = insert_in(heads, keys, values, supply, here, key, 8u32);
             }
@@ -202,6 +202,17 @@ impl Ground {
                 );
             }
             6 => {
+                let _ = least_in(
+                    &Tables {
+                        heads,
+                        keys,
+                        values,
+                    },
+                    here,
+                    &key,
+                );
+            }
+            7 => {
                 let _ = release_in(
                     &Tables {
                         heads,

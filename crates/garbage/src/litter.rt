@@ -9,7 +9,7 @@ use node::nodes::NodeRef;
 use order::blend::BlendNumber;
 use walk::walks::Walk;
 
-pub type BlendCall = Call<BlendNumber, u32, BlendNumber>;
+pub type BlendCall = Call<BlendNumber, u32, BlendNumber, BlendNumber>;
 
 impl Dice {
     /// A node's number: mostly one of `nodes`, at times none, at times any.
@@ -95,7 +95,7 @@ impl Dice {
     /// Any call, on one of the sixteen places or beyond them.
     pub fn call(&mut self) -> BlendCall {
         let place = self.below(18) as usize;
-        match self.below(12) {
+        match self.below(13) {
             0 | 1 | 2 => Call::Insert {
                 place,
                 key: self.key(),
@@ -118,6 +118,10 @@ impl Dice {
             },
             9 => Call::Close { place },
             10 => Call::Release { place },
+            11 => Call::Least {
+                place,
+                query: self.key(),
+            },
             _ => Call::Audit,
         }
     }

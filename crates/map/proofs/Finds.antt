@@ -19,7 +19,7 @@ module _ {E : Type 0} (place : E → Ordering) where
   abbrev b : E → Bool
   b e = is_gt (place e)
 
-  abbrev Not : List E → Type 0
+  abbrev pub Not : List E → Type 0
   Not l = All (λ e. place e ≡ Equal → ⊥) l
 
   -- where the search in a node stops
@@ -30,11 +30,11 @@ module _ {E : Type 0} (place : E → Ordering) where
   at_le t = omega (arith, first_is place (row t), index_le b (row t))
 
   -- the first that is not below is above, where none was found
-  abbrev Above : List E → Type 0
+  abbrev pub Above : List E → Type 0
   Above [] = Unit {0}
   Above (e ∷ es) = place e ≡ Less
 
-  stops_above : (es : List E) → found_at place es ≡ false → Above (drop (first_not_below place es) es)
+  pub stops_above : (es : List E) → found_at place es ≡ false → Above (drop (first_not_below place es) es)
   stops_above [] f = tt
   stops_above (e ∷ es) f = go (place e) refl f (λ q. stops_above es q)
     where
@@ -73,18 +73,18 @@ module _ {E : Type 0} (place : E → Ordering) where
     above_all [] a s = All-nil (λ e. place e ≡ Less)
     above_all (e ∷ es) a s = All-cons (λ y. place y ≡ Less) e es a (All-weaker (λ y. le e y ≡ true) (λ y. place y ≡ Less) (λ y l. up e y l a) es s.0)
 
-    above_not : (es : List E) → Above es → Sorted le es → Not es
+    pub above_not : (es : List E) → Above es → Sorted le es → Not es
     above_not es a s = All-weaker (λ e. place e ≡ Less) (λ e. place e ≡ Equal → ⊥) (λ e l q. let z : ◌≡◌ {A = ℕ} 0 1 = cc in omega arith) es (above_all es a s)
 
-    below_not : (es : List E) → All (λ e. b e ≡ true) es → Not es
+    pub below_not : (es : List E) → All (λ e. b e ≡ true) es → Not es
     below_not es y = All-weaker (λ e. b e ≡ true) (λ e. place e ≡ Equal → ⊥) (λ e l q. let z : is_gt (place e) ≡ false = ap is_gt q in let y : ◌≡◌ {A = ℕ} 0 1 = cc in omega arith) es y
 
     -- the entry behind a child, and what follows it
-    after_above : (ls : List (List E)) (es : List E) → Above es → Above (after ls es)
+    pub after_above : (ls : List (List E)) (es : List E) → Above es → Above (after ls es)
     after_above ls [] a = tt
     after_above ls (e ∷ es) a = a
 
-    front_below : (t : Tree E) → All (λ e. b e ≡ true) (take (at t) (row t))
+    pub front_below : (t : Tree E) → All (λ e. b e ≡ true) (take (at t) (row t))
     front_below t = subst (λ i. All (λ e. b e ≡ true) (take i (row t))) (sym (first_is place (row t))) (index_yes b (row t))
 
     leaf_not : (t : Tree E) → Sorted le (row t) → found_at place (row t) ≡ false → Not (row t)

@@ -3,3 +3,4 @@ pub mod Finds
 pub mod Inserting
 pub mod Replaces
 pub mod Writing
+pub mod Leasts

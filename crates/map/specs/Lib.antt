@@ -1,3 +1,4 @@
 pub mod Lookup
 pub mod Inserts
 pub mod Replacing
+pub mod Least

@@ -2,11 +2,13 @@
 --     key_placed, key_pointed                    a key is placed among the keys as it compares
 --     from_total                                 what std calls a total order is an order of keys
 --     viewed, viewed_placed, viewed_pointed      keys and queries that are compared by what a function reads of them
+--     led_placed                                 a query that is compared by what leads the order of the keys alone
+--     then_leads                                 what is compared first leads the order
 use Rattle.std.specs.Prelude.{◌≡◌, true}
 use Rattle.std.specs.declared.cmp.Ordering.TheVariants.{Less, Equal, Greater}
 use Rattle.std.specs.declared.cmp.Ordering.{Ordering}
-use Rattle.std.proofs.Common.{arith}
-use Rattle.std.specs.Ordering.{is_le}
+use Rattle.std.proofs.Common.{refl, arith}
+use Rattle.std.specs.Ordering.{is_le, ordering_then}
 use Rattle.std.specs.Cmp.{IsTotalOrder, alike_right}
 use Rattle.order.specs.Laws.{Ordered, Placed, Pointed}
 
@@ -67,3 +69,15 @@ module _ {X : Type 0} {cmp : X → X → Ordering} (o : Ordered cmp) where
 
   pub viewed_pointed : {K Q : Type 0} (sought : Q → X) (view : K → X) → Pointed (λ (a b : K). cmp (view a) (view b)) (λ (q : Q) (k : K). cmp (sought q) (view k))
   viewed_pointed sought view = record { single = λ q a b. key_single o (sought q) (view a) (view b) }
+
+  pub led_placed : {K Q : Type 0} {compares : K → K → Ordering} (sought : Q → X) (view : K → X) → ((a b : K) → is_le (compares a b) ≡ true → is_le (cmp (view a) (view b)) ≡ true)
+      → Placed compares (λ (q : Q) (k : K). cmp (sought q) (view k))
+  led_placed sought view leads = record {
+    under = λ q a b h. key_under o (sought q) (view a) (view b) (leads a b h);
+    over = λ q a b h. key_over o (sought q) (view a) (view b) (leads a b h);
+  }
+
+pub then_leads : (x y : Ordering) → is_le (ordering_then x y) ≡ true → is_le x ≡ true
+then_leads Less y h = refl
+then_leads Equal y h = refl
+then_leads Greater y h = h

@@ -3,3 +3,4 @@ pub mod Laws
 pub mod Marks
 pub mod Rising
 pub mod Among
+pub mod Wide

@@ -3,6 +3,7 @@
 #![tactic(auto)]
 
 pub mod blend;
+pub mod day;
 pub mod keys;
 pub mod mark;
 pub mod rows;

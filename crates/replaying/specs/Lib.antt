@@ -1,1 +1,2 @@
+pub mod Decades
 pub mod Desks

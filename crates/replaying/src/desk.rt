@@ -1,12 +1,13 @@
 //! A bank of sixteen books, with tables of its own.
 
 use crate::reply::{BlendAnswer, Reply};
-use crate::script::{BlendCall, Line};
+use crate::script::Line;
 use crate::tables::DeskTables;
 use bank::bank::Bank;
+use books::calls::Call;
 use books::refusals::Refusal;
 use order::blend::BlendNumber;
-use order::keys::{KeyOrder, Placing};
+use order::keys::{KeyOrder, Placing, Query};
 use std::alloc::Global;
 use supply::Supply;
 use supply::links::Chain;
@@ -37,8 +38,11 @@ impl Desk {
     }
 
     /// Performs a call of the bank.
-    fn call(&mut self, call: &BlendCall) -> Result<BlendAnswer, Refusal>
-        ensures { Performs ⟦<BlendNumber as KeyOrder>⟧.compares (asked ⟦<BlendNumber as Placing<BlendNumber>>⟧.places call.now) (books_of ⟦<Chain as Supply>⟧.stock self.old) (books_of ⟦<Chain as Supply>⟧.stock self.new) (told itself result) }
+    fn call<Q: Query<BlendNumber>>(
+        &mut self,
+        call: &Call<BlendNumber, u32, BlendNumber, Q>,
+    ) -> Result<BlendAnswer, Refusal>
+        ensures { Performs ⟦<BlendNumber as KeyOrder>⟧.compares (asked ⟦<BlendNumber as Placing<BlendNumber>>⟧.places Q.Placing.places call.now) (books_of ⟦<Chain as Supply>⟧.stock self.old) (books_of ⟦<Chain as Supply>⟧.stock self.new) (told itself result) }
     {
         let heads = self.tables.heads.as_mut_slice();
         let keys = self.tables.keys.as_mut_slice();
@@ -50,6 +54,7 @@ impl Desk {
     pub fn perform(&mut self, line: &Line) -> Result<Reply<'_>, Refusal> {
         match line {
             Line::Call(call) => Ok(Reply::Answer(self.call(call)?)),
+            Line::ByDecade(call) => Ok(Reply::Answer(self.call(call)?)),
             Line::Shape { place } => self.tables.shape(&self.bank, *place),
             Line::Out => Ok(Reply::Out(self.bank.supply().out_count())),
         }

@@ -1,7 +1,8 @@
-//! Performs a script of calls on a bank, of one caller or of two, and prints an answer a line: for comparison with the original map.
+//! Performs a script of calls on a bank, of one caller or of two, and prints an answer a line: for comparison with the original map, and with a model of the books.
 #![tactic(auto)]
 
 mod asked;
+pub mod decade;
 mod desk;
 mod path;
 mod reply;

@@ -49,6 +49,8 @@ fn write_answer<W: fmt::Write>(f: &mut fmt::Formatter<W>, answer: BlendAnswer) -
         Answer::Inserted(Some(old)) => write!(f, "old {old}"),
         Answer::Found(None, made) => write!(f, "none {made}"),
         Answer::Found(Some(value), made) => write!(f, "{value} {made}"),
+        Answer::Least(None) => write!(f, "none"),
+        Answer::Least(Some((key, value))) => write!(f, "{key} {value}"),
         Answer::Counted(count) => write!(f, "{count}"),
         Answer::Parted(left, right, made) => write!(f, "{left} {right} {made}"),
         Answer::Opened => write!(f, "open"),

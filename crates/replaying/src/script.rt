@@ -1,5 +1,6 @@
 //! Lines of a script: a letter, and numbers one blank apart.
 
+use crate::decade::Decade;
 use books::calls::Call;
 use node::ends::Side;
 use order::blend::BlendNumber;
@@ -8,12 +9,16 @@ use std::fmt;
 use std::str::FromStr;
 
 /// A call on books of blends, each with a number.
-pub type BlendCall = Call<BlendNumber, u32, BlendNumber>;
+pub type BlendCall = Call<BlendNumber, u32, BlendNumber, BlendNumber>;
+
+/// The same, with a decade where a book is cut or its least entry is looked for.
+pub type DecadeCall = Call<BlendNumber, u32, BlendNumber, Decade>;
 
 /// What a line asks for.
 #[derive(Clone, Copy, Debug, PartialEq, Eq)]
 pub enum Line {
     Call(BlendCall),
+    ByDecade(DecadeCall),
     /// The shape of what stands in a place.
     Shape { place: usize },
     /// How many nodes are out.
@@ -60,6 +65,15 @@ impl FromStr for Line {
         match name {
             Some("s") => Ok(Line::Shape { place }),
             Some("f") => Ok(Line::Out),
+            Some("C") => Ok(Line::ByDecade(Call::Cut {
+                place,
+                other: second as usize,
+                query: Decade { tens: third },
+            })),
+            Some("m") => Ok(Line::ByDecade(Call::Least {
+                place,
+                query: Decade { tens: second },
+            })),
             Some(name) => call_named(name, place, second, third).map(Line::Call),
             None => Err(NoLine),
         }

@@ -1,11 +1,12 @@
 //! A bank for two callers, with tables of its own.
 
 use crate::reply::{BlendAnswer, Reply};
-use crate::script::{BlendCall, Line, SharedLine};
+use crate::script::{Line, SharedLine};
 use crate::tables::DeskTables;
+use books::calls::Call;
 use books::refusals::Refusal;
 use order::blend::BlendNumber;
-use order::keys::{KeyOrder, Placing};
+use order::keys::{KeyOrder, Placing, Query};
 use shared::sharing::SharedBank;
 use std::alloc::Global;
 use supply::Supply;
@@ -62,8 +63,11 @@ impl SharedDesk {
     }
 
     /// Performs a call of the caller that is served.
-    fn call(&mut self, call: &BlendCall) -> Result<BlendAnswer, Refusal>
-        ensures { Called ⟦<BlendNumber as KeyOrder>⟧.compares (caller_number self.old.bank.bank.supply.caller) (event (asked ⟦<BlendNumber as Placing<BlendNumber>>⟧.places call.now) (told itself result)) (shared_books_of self.old) (shared_books_of self.new) }
+    fn call<Q: Query<BlendNumber>>(
+        &mut self,
+        call: &Call<BlendNumber, u32, BlendNumber, Q>,
+    ) -> Result<BlendAnswer, Refusal>
+        ensures { Called ⟦<BlendNumber as KeyOrder>⟧.compares (caller_number self.old.bank.bank.supply.caller) (event (asked ⟦<BlendNumber as Placing<BlendNumber>>⟧.places Q.Placing.places call.now) (told itself result)) (shared_books_of self.old) (shared_books_of self.new) }
     {
         let heads = self.tables.heads.as_mut_slice();
         let keys = self.tables.keys.as_mut_slice();
@@ -79,6 +83,7 @@ impl SharedDesk {
                 Ok(Reply::Turned)
             }
             SharedLine::Served(Line::Call(call)) => Ok(Reply::Answer(self.call(call)?)),
+            SharedLine::Served(Line::ByDecade(call)) => Ok(Reply::Answer(self.call(call)?)),
             SharedLine::Served(Line::Shape { place }) => self
                 .tables
                 .shape(self.bank.bank(), *place),

@@ -21,16 +21,16 @@ use Rattle.shared.specs.MoveLists.{AskedMove, asked_move, told_reply, replied, m
 use Rattle.shared.proofs.Standing.{all_stand}
 
 -- one move, from what its method says
-module _ {K V Q : Type 0} (compares : K → K → Ordering) (places : Q → Query K) (m : Move K V Q) (x : Result (Reply K V) Refusal) (d d' : SharedState K V) where
-  pub laid_made : (b : ℕ) (r : Result (Unit {0}) Refusal) → m ≡ LayOut → told_reply x ≡ replied (λ u. R.LaidOut) (coded r) → LaidOut compares b (coded r) d d' → MakesMove compares (asked_move places m) (told_reply x) d d'
-  laid_made b r e q l = record { moved = laid b (coded r); asked = ap (asked_move places) (sym e); told = sym q; made = l }
+module _ {K V P Q : Type 0} (compares : K → K → Ordering) (points : P → Query K) (places : Q → Query K) (m : Move K V P Q) (x : Result (Reply K V) Refusal) (d d' : SharedState K V) where
+  pub laid_made : (b : ℕ) (r : Result (Unit {0}) Refusal) → m ≡ LayOut → told_reply x ≡ replied (λ u. R.LaidOut) (coded r) → LaidOut compares b (coded r) d d' → MakesMove compares (asked_move points places m) (told_reply x) d d'
+  laid_made b r e q l = record { moved = laid b (coded r); asked = ap (asked_move points places) (sym e); told = sym q; made = l }
 
-  pub turned_made : (n : ℕ) (r : Result (Unit {0}) Refusal) → m ≡ Turn n → told_reply x ≡ replied (λ u. R.Turned) (coded r) → TurnsTo n d d' (coded r) → MakesMove compares (asked_move places m) (told_reply x) d d'
-  turned_made n r e q t = record { moved = turned n (coded r); asked = ap (asked_move places) (sym e); told = sym q; made = t }
+  pub turned_made : (n : ℕ) (r : Result (Unit {0}) Refusal) → m ≡ Turn n → told_reply x ≡ replied (λ u. R.Turned) (coded r) → TurnsTo n d d' (coded r) → MakesMove compares (asked_move points places m) (told_reply x) d d'
+  turned_made n r e q t = record { moved = turned n (coded r); asked = ap (asked_move points places) (sym e); told = sym q; made = t }
 
-  pub called_made : (b : ℕ) (c : Calls.Call K V Q) (r : Result (Answer K V) Refusal) → m ≡ Call c → told_reply x ≡ replied R.Answered (told itself r) → Called compares b (event (asked places c) (told itself r)) d d'
-      → MakesMove compares (asked_move places m) (told_reply x) d d'
-  called_made b c r e q a = record { moved = called b (event (asked places c) (told itself r)); asked = ap (asked_move places) (sym e); told = sym q; made = a }
+  pub called_made : (b : ℕ) (c : Calls.Call K V P Q) (r : Result (Answer K V) Refusal) → m ≡ Call c → told_reply x ≡ replied R.Answered (told itself r) → Called compares b (event (asked points places c) (told itself r)) d d'
+      → MakesMove compares (asked_move points places m) (told_reply x) d d'
+  called_made b c r e q a = record { moved = called b (event (asked points places c) (told itself r)); asked = ap (asked_move points places) (sym e); told = sym q; made = a }
 
 module _ {K V : Type 0} {compares : K → K → Ordering} (ordered : Ordered compares) where
   pub made_none : (d : SharedState K V) → Performed compares [] [] d d
@@ -56,16 +56,16 @@ rest_same n xs ys x e = drop-set-lt (n + 1) ys n x (omega arith) ∙ sym (drop-d
 replies_more : {K V : Type 0} (n : ℕ) (rs : List (Result (Reply K V) Refusal)) (r : Result (Reply K V) Refusal) → n < length rs → first_replies (n + 1) (set rs n r) ≡ first_replies n rs ++ told_reply r ∷ []
 replies_more n rs r l = ap (map told_reply) (take_more_set rs n r l) ∙ map-append told_reply (take n rs) (r ∷ [])
 
-module _ {K V Q : Type 0} where
-  moves_more : (places : Q → Query K) (n : ℕ) (ms : List (Move K V Q)) (d : Move K V Q) → n < length ms → first_moves places (n + 1) ms ≡ first_moves places n ms ++ asked_move places (get_or ms n d) ∷ []
-  moves_more places n ms d l = ap (map (asked_move places)) (take_more ms n d l) ∙ map-append (asked_move places) (take n ms) (get_or ms n d ∷ [])
+module _ {K V P Q : Type 0} where
+  moves_more : (points : P → Query K) (places : Q → Query K) (n : ℕ) (ms : List (Move K V P Q)) (d : Move K V P Q) → n < length ms → first_moves points places (n + 1) ms ≡ first_moves points places n ms ++ asked_move points places (get_or ms n d) ∷ []
+  moves_more points places n ms d l = ap (map (asked_move points places)) (take_more ms n d l) ∙ map-append (asked_move points places) (take n ms) (get_or ms n d ∷ [])
 
   -- one move more, with its reply put down
-  pub listed_more : {compares : K → K → Ordering} (ordered : Ordered compares) (places : Q → Query K) (n : ℕ) (ms : List (Move K V Q)) (m : Move K V Q) (rs rs' : List (Result (Reply K V) Refusal)) (r : Result (Reply K V) Refusal) (d d₁ d₂ : SharedState K V)
-      → n < length ms → n < length rs → m ≡ get_or ms n m → rs' ≡ set rs n r → Performed compares (first_moves places n ms) (first_replies n rs) d d₁ → MakesMove compares (asked_move places m) (told_reply r) d₁ d₂
-      → Performed compares (first_moves places (n + 1) ms) (first_replies (n + 1) rs') d d₂
-  listed_more {compares} ordered places n ms m rs rs' r d d₁ d₂ l k q z a b =
-      subst (λ x. Performed compares (first_moves places (n + 1) ms) (first_replies (n + 1) x) d d₂) (sym z)
-      (subst (λ x. Performed compares x (first_replies (n + 1) (set rs n r)) d d₂) (sym (moves_more places n ms m l ∙ ap (λ y. first_moves places n ms ++ asked_move places y ∷ []) (sym q)))
-      (subst (λ x. Performed compares (first_moves places n ms ++ asked_move places m ∷ []) x d d₂) (sym (replies_more n rs r k))
-      (made_more ordered (first_moves places n ms) (first_replies n rs) (asked_move places m) (told_reply r) d d₁ d₂ a b)))
+  pub listed_more : {compares : K → K → Ordering} (ordered : Ordered compares) (points : P → Query K) (places : Q → Query K) (n : ℕ) (ms : List (Move K V P Q)) (m : Move K V P Q) (rs rs' : List (Result (Reply K V) Refusal)) (r : Result (Reply K V) Refusal) (d d₁ d₂ : SharedState K V)
+      → n < length ms → n < length rs → m ≡ get_or ms n m → rs' ≡ set rs n r → Performed compares (first_moves points places n ms) (first_replies n rs) d d₁ → MakesMove compares (asked_move points places m) (told_reply r) d₁ d₂
+      → Performed compares (first_moves points places (n + 1) ms) (first_replies (n + 1) rs') d d₂
+  listed_more {compares} ordered points places n ms m rs rs' r d d₁ d₂ l k q z a b =
+      subst (λ x. Performed compares (first_moves points places (n + 1) ms) (first_replies (n + 1) x) d d₂) (sym z)
+      (subst (λ x. Performed compares x (first_replies (n + 1) (set rs n r)) d d₂) (sym (moves_more points places n ms m l ∙ ap (λ y. first_moves points places n ms ++ asked_move points places y ∷ []) (sym q)))
+      (subst (λ x. Performed compares (first_moves points places n ms ++ asked_move points places m ∷ []) x d d₂) (sym (replies_more n rs r k))
+      (made_more ordered (first_moves points places n ms) (first_replies n rs) (asked_move points places m) (told_reply r) d d₁ d₂ a b)))

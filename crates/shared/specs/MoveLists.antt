@@ -21,12 +21,12 @@ use Rattle.shared.specs.Moves.{Moved, turned, laid, called, Makes, MakesAll, Lai
 use Rattle.shared.specs.SharedStates.{SharedState}
 
 abbrev pub AskedMove : Type 0 → Type 0 → Type 0
-AskedMove K V = Move K V (Query K)
+AskedMove K V = Move K V (Query K) (Query K)
 
-abbrev pub asked_move : {K V Q : Type 0} → (Q → Query K) → Move K V Q → AskedMove K V
-asked_move places LayOut = LayOut
-asked_move places (Turn n) = Turn n
-asked_move places (Call c) = Call (asked places c)
+abbrev pub asked_move : {K V P Q : Type 0} → (P → Query K) → (Q → Query K) → Move K V P Q → AskedMove K V
+asked_move points places LayOut = LayOut
+asked_move points places (Turn n) = Turn n
+asked_move points places (Call c) = Call (asked points places c)
 
 abbrev pub replied : {K V X : Type 0} → (X → Reply K V) → Result X Code → Result (Reply K V) Code
 replied f (Ok x) = Ok (f x)
@@ -59,8 +59,8 @@ pub record Performed {K V : Type 0} (compares : K → K → Ordering) (ms : List
   pub made : MakesAll compares moves d d'
   pub stands : (before : List (Moved K V)) → BothStand compares d before → LaidFirst (moves ++ before) → BothStand compares d' (moves ++ before)
 
-abbrev pub first_moves : {K V Q : Type 0} → (Q → Query K) → ℕ → List (Move K V Q) → List (AskedMove K V)
-first_moves places n ms = map (asked_move places) (take n ms)
+abbrev pub first_moves : {K V P Q : Type 0} → (P → Query K) → (Q → Query K) → ℕ → List (Move K V P Q) → List (AskedMove K V)
+first_moves points places n ms = map (asked_move points places) (take n ms)
 
 abbrev pub first_replies : {K V : Type 0} → ℕ → List (Result (Reply K V) Refusal) → List (Result (Reply K V) Code)
 first_replies n rs = map told_reply (take n rs)

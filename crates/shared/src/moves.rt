@@ -4,10 +4,10 @@ use books::calls::{Answer, Call};
 
 /// What is asked of a bank for two callers. A laying out and a call are for the caller that is served.
 #[derive(Clone, Copy, PartialEq, Eq, Debug)]
-pub enum Move<K, V, Q> {
+pub enum Move<K, V, P, Q> {
     LayOut,
     Turn { caller: u16 },
-    Call(Call<K, V, Q>),
+    Call(Call<K, V, P, Q>),
 }
 
 /// What a move answers.

@@ -121,27 +121,27 @@ impl<S: Supply> SharedBank<S> {
     }
 
     /// Performs a call of the caller that is served, and answers what it answers. Refusals are those of the call.
-    pub fn perform<K: KeyOrder, V: Copy, Q: PointQuery<K>>(
+    pub fn perform<K: KeyOrder, V: Copy, P: PointQuery<K>, Q: Query<K>>(
         &mut self,
         heads: &mut [Head],
         keys: &mut [K],
         values: &mut [V],
-        call: &Call<K, V, Q>,
+        call: &Call<K, V, P, Q>,
     ) -> Result<Answer<K, V>, Refusal>
-        ensures { Called K.KeyOrder.compares (caller_number self.old.bank.supply.caller) (event (asked Q.Placing.places call.now) (told itself result)) (state_of S.Supply self.old (tables heads.old keys.old values.old)) (state_of S.Supply self.new (tables heads.new keys.new values.new)) }
+        ensures { Called K.KeyOrder.compares (caller_number self.old.bank.supply.caller) (event (asked P.Placing.places Q.Placing.places call.now) (told itself result)) (state_of S.Supply self.old (tables heads.old keys.old values.old)) (state_of S.Supply self.new (tables heads.new keys.new values.new)) }
     {
         self.bank.perform(heads, keys, values, call)
     }
 
     /// Makes one move, and answers what it answers: a laying out, a turn, or a call of the caller that is served.
-    pub fn make<K: KeyOrder, V: Copy, Q: PointQuery<K>>(
+    pub fn make<K: KeyOrder, V: Copy, P: PointQuery<K>, Q: Query<K>>(
         &mut self,
         heads: &mut [Head],
         keys: &mut [K],
         values: &mut [V],
-        request: &Move<K, V, Q>,
+        request: &Move<K, V, P, Q>,
     ) -> Result<Reply<K, V>, Refusal>
-        ensures { MakesMove K.KeyOrder.compares (asked_move Q.Placing.places request.now) (told_reply result) (state_of S.Supply self.old (tables heads.old keys.old values.old)) (state_of S.Supply self.new (tables heads.new keys.new values.new)) }
+        ensures { MakesMove K.KeyOrder.compares (asked_move P.Placing.places Q.Placing.places request.now) (told_reply result) (state_of S.Supply self.old (tables heads.old keys.old values.old)) (state_of S.Supply self.new (tables heads.new keys.new values.new)) }
     {
         match request {
             Move::LayOut => {
@@ -160,17 +160,17 @@ impl<S: Supply> SharedBank<S> {
     }
 
     /// Makes moves one after the other and puts down what each answers, as many as there is room for. Answers how many were made.
-    pub fn make_all<K: KeyOrder, V: Copy, Q: PointQuery<K>>(
+    pub fn make_all<K: KeyOrder, V: Copy, P: PointQuery<K>, Q: Query<K>>(
         &mut self,
         heads: &mut [Head],
         keys: &mut [K],
         values: &mut [V],
-        moves: &[Move<K, V, Q>],
+        moves: &[Move<K, V, P, Q>],
         replies: &mut [Result<Reply<K, V>, Refusal>],
     ) -> usize
         ensures count { Lesser result (length moves.now) (length replies.old) }
         ensures others { drop result replies.new ≡ drop result replies.old }
-        ensures all { Performed K.KeyOrder.compares (first_moves Q.Placing.places result moves.now) (first_replies result replies.new) (state_of S.Supply self.old (tables heads.old keys.old values.old)) (state_of S.Supply self.new (tables heads.new keys.new values.new)) }
+        ensures all { Performed K.KeyOrder.compares (first_moves P.Placing.places Q.Placing.places result moves.now) (first_replies result replies.new) (state_of S.Supply self.old (tables heads.old keys.old values.old)) (state_of S.Supply self.new (tables heads.new keys.new values.new)) }
     {
         let count = lesser(moves.len(), replies.len());
         for idx in 0..count {

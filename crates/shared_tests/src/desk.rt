@@ -12,11 +12,11 @@ use std::process::Abort;
 use std::test::Fail;
 use supply::Supply;
 
-pub type Ask = Call<BlendNumber, u32, BlendNumber>;
+pub type Ask = Call<BlendNumber, u32, BlendNumber, BlendNumber>;
 
 pub type Told = Result<Answer<BlendNumber, u32>, Refusal>;
 
-pub type Asked = Move<BlendNumber, u32, BlendNumber>;
+pub type Asked = Move<BlendNumber, u32, BlendNumber, BlendNumber>;
 
 pub type Replied = Result<Reply<BlendNumber, u32>, Refusal>;
 

@@ -7,8 +7,9 @@ use crate::works::{BatchCall, Works};
 use books::calls::Call;
 use books::refusals::Refusal;
 use node::ends::Side;
+use order::keys::{KeyOrder, Placing, Query};
 use order::stamp::BatchStamp;
-use std::io;
+use std::{fmt, io};
 use supply::Supply;
 
 /// The batch book that the day begins with.
@@ -132,10 +133,10 @@ pub fn counts() -> [BatchCall; 3] {
 }
 
 /// Performs the calls in turn, and prints what each answers.
-fn print_calls<S: Supply>(
+pub fn print_calls<S: Supply, Q: Query<BatchStamp> + Copy + fmt::Display>(
     rt: &impl Print,
     works: &mut Works<S>,
-    calls: &[BatchCall],
+    calls: &[BatchCall<Q>],
 ) -> io::Result<()> {
     for call in calls {
         print_line(rt, &Asked(*call), &works.perform(call).map(Told))?;

@@ -8,7 +8,7 @@ use std::{fmt, io};
 
 /// A call in writing.
 #[derive(Clone, Copy, PartialEq, Eq, Debug)]
-pub struct Asked(pub BatchCall);
+pub struct Asked<Q>(pub BatchCall<Q>);
 
 /// An answer in writing.
 #[derive(Clone, Copy, PartialEq, Eq, Debug)]
@@ -26,11 +26,12 @@ pub fn print_line<A: fmt::Display, T: fmt::Display>(
     }
 }
 
-impl fmt::Display for Asked {
+impl<Q: fmt::Display> fmt::Display for Asked<Q> {
     fn fmt<W: fmt::Write>(&self, f: &mut fmt::Formatter<W>) -> fmt::Result {
-        match self.0 {
+        match &self.0 {
             Call::Insert { place, key, value } => write!(f, "book {place}, enter {key}, {value}"),
             Call::Lookup { place, query } => write!(f, "book {place}, look up {query}"),
+            Call::Least { place, query } => write!(f, "book {place}, least of {query}"),
             Call::Count { place } => write!(f, "book {place}, entries"),
             Call::Cut {
                 place,
@@ -60,6 +61,8 @@ impl fmt::Display for Told {
             Answer::Inserted(Some(old)) => write!(f, "in place of {old}"),
             Answer::Found(None, made) => write!(f, "comparisons {made}, not found"),
             Answer::Found(Some(value), made) => write!(f, "comparisons {made}, found {value}"),
+            Answer::Least(None) => write!(f, "none"),
+            Answer::Least(Some((key, value))) => write!(f, "{key}, {value}"),
             Answer::Counted(count) => write!(f, "{count}"),
             Answer::Parted(left, right, made) => write!(
                 f,

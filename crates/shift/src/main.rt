@@ -4,6 +4,7 @@
 mod batches;
 mod before;
 mod blending;
+mod by_day;
 mod card;
 mod day;
 mod lines;
@@ -17,6 +18,7 @@ fn main(rt: HostRuntime) -> anyhow::Result<()> {
     before::print_spare_nodes(&rt)?;
     blending::print_shift(&rt, "chain", Chain::new(5))?;
     blending::print_shift_card(&rt, "bitmap", Bitmap::new(5))?;
+    by_day::print_days(&rt)?;
     day::supplies(&rt)?;
     day::batches_by_stamp(&rt)?;
     day::doses_by_mark(&rt)?;

@@ -26,7 +26,7 @@ const ROOM: u16 = 1;
 const LIMITS: [u16; 2] = [4, 2];
 
 /// What a caller may ask for.
-type BatchMove = Move<BatchStamp, BatchRecord, BatchStamp>;
+type BatchMove = Move<BatchStamp, BatchRecord, BatchStamp, BatchStamp>;
 
 /// What it is answered.
 type BatchReply = Reply<BatchStamp, BatchRecord>;
@@ -61,7 +61,7 @@ impl<S: Supply> SharedWorks<S> {
 
     /// Makes a move, and answers what it answers.
     fn make(&mut self, request: &BatchMove) -> Result<BatchReply, Refusal>
-        ensures { MakesMove ⟦<BatchStamp as KeyOrder>⟧.compares (asked_move ⟦<BatchStamp as Placing<BatchStamp>>⟧.places request.now) (told_reply result) (shared_books_of S.Supply self.old) (shared_books_of S.Supply self.new) }
+        ensures { MakesMove ⟦<BatchStamp as KeyOrder>⟧.compares (asked_move ⟦<BatchStamp as Placing<BatchStamp>>⟧.places ⟦<BatchStamp as Placing<BatchStamp>>⟧.places request.now) (told_reply result) (shared_books_of S.Supply self.old) (shared_books_of S.Supply self.new) }
     {
         let SharedWorks {
             heads,

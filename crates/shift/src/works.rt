@@ -5,7 +5,7 @@ use books::calls::{Answer, Call};
 use books::refusals::Refusal;
 use node::head::{CAPACITY, Head, NULL};
 use order::blend::BlendNumber;
-use order::keys::{KeyOrder, Placing};
+use order::keys::{KeyOrder, Placing, Query};
 use order::stamp::BatchStamp;
 use order::values::BatchRecord;
 use supply::Supply;
@@ -16,8 +16,8 @@ pub const NODES: usize = 5;
 /// How many keys and how many values the tables have.
 pub const CELLS: usize = CAPACITY * NODES;
 
-/// A call on a batch book.
-pub type BatchCall = Call<BatchStamp, BatchRecord, BatchStamp>;
+/// A call on a batch book, which is cut at a stamp, or else at what `Q` says.
+pub type BatchCall<Q = BatchStamp> = Call<BatchStamp, BatchRecord, BatchStamp, Q>;
 
 /// What a call on a batch book answers.
 pub type BatchAnswer = Answer<BatchStamp, BatchRecord>;
@@ -76,8 +76,11 @@ impl<S: Supply> Works<S> {
     }
 
     /// Performs a call on the books.
-    pub fn perform(&mut self, call: &BatchCall) -> Result<BatchAnswer, Refusal>
-        ensures { Performs ⟦<BatchStamp as KeyOrder>⟧.compares (asked ⟦<BatchStamp as Placing<BatchStamp>>⟧.places call.now) (books_of S.stock self.old) (books_of S.stock self.new) (told itself result) }
+    pub fn perform<Q: Query<BatchStamp>>(
+        &mut self,
+        call: &BatchCall<Q>,
+    ) -> Result<BatchAnswer, Refusal>
+        ensures { Performs ⟦<BatchStamp as KeyOrder>⟧.compares (asked ⟦<BatchStamp as Placing<BatchStamp>>⟧.places Q.Placing.places call.now) (books_of S.stock self.old) (books_of S.stock self.new) (told itself result) }
     {
         let Works {
             heads,
@@ -94,7 +97,7 @@ impl<S: Supply> Works<S> {
         calls: &[BatchCall],
         answers: &mut [Result<BatchAnswer, Refusal>],
     ) -> usize
-        ensures { PerformsAll ⟦<BatchStamp as KeyOrder>⟧.compares (first_calls ⟦<BatchStamp as Placing<BatchStamp>>⟧.places result calls.now) (books_of S.stock self.old) (books_of S.stock self.new) (first_answers result answers.new) }
+        ensures { PerformsAll ⟦<BatchStamp as KeyOrder>⟧.compares (first_calls ⟦<BatchStamp as Placing<BatchStamp>>⟧.places ⟦<BatchStamp as Placing<BatchStamp>>⟧.places result calls.now) (books_of S.stock self.old) (books_of S.stock self.new) (first_answers result answers.new) }
     {
         let Works {
             heads,

@@ -11,7 +11,7 @@ use std::process::Abort;
 use std::test::Fail;
 use supply::Supply;
 
-pub type Ask = Call<BlendNumber, u32, BlendNumber>;
+pub type Ask = Call<BlendNumber, u32, BlendNumber, BlendNumber>;
 
 pub type Told = Result<Answer<BlendNumber, u32>, Refusal>;
 

@@ -1,5 +1,4 @@
-use Rattle.std.proofs.Common.{◌≡◌, ap, ◌∙◌, true, false, length, rules}
-use Rattle.std.specs.Ordering.{is_eq}
+use Rattle.std.proofs.Common.{false, length, rules}
 use borrow.Author.Rules.{get_or_read}
 use Rattle.order.specs.Found.{Stopped}
 use Rattle.order.proofs.Among.{told, at_most}

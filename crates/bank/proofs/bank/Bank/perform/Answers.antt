@@ -5,4 +5,4 @@ pub returns-clause-keeps : goal.returns-clause-keeps
 returns-clause-keeps g c bs f m = met_any g.met.K.KeyOrder.ordered _ _ bs m _ _ f c.dispatch.ensures
 
 pub returns-clause-agrees : goal.returns-clause-agrees
-returns-clause-agrees g c = agreeing g.met.Q.Query.placed c.args.call.now
+returns-clause-agrees g c = agreeing g.met.P.Query.placed g.met.P.PointQuery.pointed g.met.Q.Query.placed c.args.call.now

@@ -7,5 +7,5 @@ use Rattle.bank.proofs.bank.Bank.perform_all.Given as goal
 abbrev pub invariant-loop-idx : goal.invariant-loop-idx
 invariant-loop-idx g l =
     (length l.answers ≡ length l.initial.answers)
-    × PerformsAll g.K.KeyOrder.compares (first_calls g.Q.Placing.places l.idx l.calls) (state_of g.S.Supply.stock l.initial.self (tables l.initial.heads l.initial.keys l.initial.values))
+    × PerformsAll g.K.KeyOrder.compares (first_calls g.P.Placing.places g.Q.Placing.places l.idx l.calls) (state_of g.S.Supply.stock l.initial.self (tables l.initial.heads l.initial.keys l.initial.values))
     (state_of g.S.Supply.stock l.self (tables l.heads l.keys l.values)) (first_answers l.idx l.answers)

@@ -12,7 +12,7 @@ pub loop-idx-preserved : goal.loop-idx-preserved
 loop-idx-preserved g c = (
   ap length c.put.ensures ∙ length-set c.loop-idx.replies c.loop-idx.idx c.make-reply.result ∙ c.loop-idx.invariant.0,
   ap (drop (c.loop-idx.idx + 1)) c.put.ensures ∙ rest_same c.loop-idx.idx c.args.replies.now c.loop-idx.replies c.make-reply.result c.loop-idx.invariant.1,
-  listed_more g.met.K.KeyOrder.ordered g.Q.Placing.places c.loop-idx.idx c.args.moves.now c.index-moves-idx.result c.loop-idx.replies c.put.new.slice c.make-reply.result _ _ _
+  listed_more g.met.K.KeyOrder.ordered g.P.Placing.places g.Q.Placing.places c.loop-idx.idx c.args.moves.now c.index-moves-idx.result c.loop-idx.replies c.put.new.slice c.make-reply.result _ _ _
       (omega (arith, c.lesser-count.ensures)) (omega (arith, c.lesser-count.ensures, c.loop-idx.invariant.0)) c.index-moves-idx.is c.put.ensures c.loop-idx.invariant.2 c.make-reply.ensures,
 )
 
@@ -25,6 +25,6 @@ pub returns-clause-all : goal.returns-clause-all
 returns-clause-all g c =
     let z : c.loop-idx.idx ≡ c.lesser-count.result = omega arith in
     subst
-    (λ n. Performed g.K.KeyOrder.compares (first_moves g.Q.Placing.places n c.args.moves.now) (first_replies n c.loop-idx.replies) (state_of g.S.Supply c.args.self.now (tables c.args.heads.now c.args.keys.now c.args.values.now))
+    (λ n. Performed g.K.KeyOrder.compares (first_moves g.P.Placing.places g.Q.Placing.places n c.args.moves.now) (first_replies n c.loop-idx.replies) (state_of g.S.Supply c.args.self.now (tables c.args.heads.now c.args.keys.now c.args.values.now))
     (state_of g.S.Supply c.loop-idx.self (tables c.loop-idx.heads c.loop-idx.keys c.loop-idx.values))) z
     c.loop-idx.invariant.2
