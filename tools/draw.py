@@ -57,7 +57,7 @@ LAYERS = [
     ("over the bank", OUTER, [("bounds", "how many nodes"), ("bank_c", "from C, Rust"), ("shared", "two callers"), ("replaying", "both replays")]),
     ("the bank", CALL, [("bank", "checks, refusals, all calls, lists of calls")]),
     ("books", BOOK, [("acts", "a call at one place"), ("audit", "is it in good form")]),
-    ("", BOOK, [("books", "places, the rule of each call, what it means, runs")]),
+    ("", BOOK, [("calls", "the rule of each call, runs"), ("books", "places, books, good form")]),
     ("one tree", TREE, [("insertion", "with splits"), ("cut", "in two")]),
     ("", TREE, [("map", "lookup, least entry, one node"), ("repair", "of a border"), ("walk", "steps, release")]),
     ("", TREE, [("rules", "insertion on trees"), ("parts", "cuts on trees")]),
@@ -178,8 +178,8 @@ CHAIN = [
 ]
 LAWS = {
     "rule": ("laws of the rule", "formed, in order, the list, the numbers", "rules, parts, walk: specs/Laws.antt"),
-    "call": ("what the rule means", "an ordered map's answer, for the lists", "books: specs/Meaning.antt"),
-    "run": ("law over runs", "entries and nodes come out even", "books: specs/Runs.antt, Laws.antt"),
+    "call": ("what the rule means", "an ordered map's answer, for the lists", "calls: specs/Meaning.antt"),
+    "run": ("law over runs", "entries and nodes come out even", "calls: specs/Runs.antt, Laws.antt"),
 }
 
 

@@ -19,18 +19,18 @@ use Rattle.node.specs.Laws.{occurs, same}
 use Rattle.node.proofs.Balances.{balanced_as, balanced_none}
 use Rattle.insertion.specs.Descent.{Swapped}
 use Rattle.insertion.proofs.Descended.{amend_number}
-use Rattle.books.specs.Meaning.{Sound}
-use Rattle.books.proofs.Inserting.{insert_kept}
+use Rattle.calls.specs.Meaning.{Sound}
+use Rattle.calls.proofs.Inserting.{insert_kept}
 use Rattle.insertion.specs.Roots.{Begins, Begun, Planted, Enters, Entered}
 use Rattle.books.specs.declared.places.Place.{Place}
 use Rattle.books.specs.declared.places.Place.TheVariants as P
-use Rattle.books.specs.declared.calls.Answer.TheVariants.{Inserted}
-use Rattle.books.specs.Books.{bare, planted, entries, TreeAt}
-use Rattle.books.specs.Faults.{fault_code}
-use Rattle.books.specs.declared.calls.Answer.{Answer}
-use Rattle.books.specs.Refusals.{Code}
-use Rattle.books.specs.Runs.{inserted, handed, dropped}
-use Rattle.books.specs.Rules.{Part, insert_in, put_in, beside_key}
+use Rattle.calls.specs.declared.calls.Answer.TheVariants.{Inserted}
+use Rattle.books.specs.Books.{bare, planted, entries, TreeAt, at_tree}
+use Rattle.calls.specs.Faults.{fault_code}
+use Rattle.calls.specs.declared.calls.Answer.{Answer}
+use Rattle.calls.specs.Refusals.{Code}
+use Rattle.calls.specs.Runs.{inserted, handed, dropped}
+use Rattle.calls.specs.Rules.{Part, insert_in, put_in, beside_key}
 use Rattle.map.specs.Lookup.{seek}
 use Rattle.acts.specs.Acts.{Acts, Counts, InsertsBy, InsertsIn}
 use Rattle.acts.proofs.Views.{bare_book, ready_tree}
@@ -62,7 +62,7 @@ module _ {K V : Type 0} (compares : K → K → Ordering) (T T' : Tables K V) (S
       granted l (m, r, w) = record {
         fresh = λ _. 0;
         top = m;
-        acts = subst (λ o. Acts compares T T' S S' bare Inserted o (Ok (P.Tree root 1, None))) (sym (enough 1 S.allowance _ _ l)) (refl, record { at = single m root (ok_same _ _ r) w; beside = w.beside; balanced = w.balance });
+        acts = subst (λ o. Acts compares T T' S S' bare Inserted o (Ok (P.Tree root 1, None))) (sym (enough 1 S.allowance _ _ l)) (refl, record { at = at_tree _ _ (single m root (ok_same _ _ r) w); beside = w.beside; balanced = w.balance });
       }
 
   pub inserts_bare : ((root : NodeRef) (count : ℕ) → p ≡ P.Tree root count → ⊥) → (root : NodeRef) → Begins T T' S S' e (Ok root) → InsertsIn compares T T' S S' p e (Ok (P.Tree root 1, None))
@@ -137,7 +137,7 @@ module _ {K V : Type 0} (compares : K → K → Ordering) (T T' : Tables K V) (S
           acts = subst (λ o. Acts compares T T' S S' (planted root.height t) Inserted o (Ok (P.Tree (root_of (root.height, t)) n, Some (second x)))) (sym g) (
             refl,
             record {
-              at = subst (λ k. TreeAt compares T' (record { node = k; height = root.height }) n root.height t') m v;
+              at = at_tree _ _ (subst (λ k. TreeAt compares T' (record { node = k; height = root.height }) n root.height t') m v);
               beside = w.beside;
               balanced = subst (λ Z. Balanced S Z (λ y. occurs y root.height t) (λ y. occurs y root.height t')) (sym w.stock_same) (balanced_as S S (λ _. 0) (λ _. 0) (λ y. occurs y root.height t) (λ y. occurs y root.height t') (λ y. omega (arith, kept (same y))) (balanced_none S (λ _. 0)));
             },
@@ -154,7 +154,7 @@ module _ {K V : Type 0} (compares : K → K → Ordering) (T T' : Tables K V) (S
           fresh = fresh;
           top = top;
           acts = subst (λ o. Acts compares T T' S S' (planted root.height t) Inserted o (Ok (P.Tree (root_of p) n, None))) (sym g)
-              (refl, record { at = made fresh top None n c p g w.held w.root; beside = w.beside; balanced = w.balance });
+              (refl, record { at = at_tree _ _ (made fresh top None n c p g w.held w.root); beside = w.beside; balanced = w.balance });
         }
 
     grown : (root' : NodeRef) (old : Option V) (n : ℕ) → Counts count old n → Rooted T (number t) → Entered (beside_key compares e) T T' S S' root.height e t (Ok (root', old)) → InsertsBy compares T T' S S' e (planted root.height t) (Ok (P.Tree root' n, old))

@@ -7,11 +7,12 @@ use Rattle.node.specs.Shape.{Tree, flat}
 use Rattle.node.specs.Store.{Tables, first}
 use Rattle.map.specs.Lookup.{Seeks, seek, looks, value_of}
 use Rattle.map.specs.Least.{first_same, FindsLeast}
-use Rattle.books.specs.declared.calls.Answer.TheVariants.{Least as LeastIs}
+use Rattle.calls.specs.declared.calls.Answer.TheVariants.{Least as LeastIs}
 use Rattle.books.specs.declared.places.Place.{Place}
 use Rattle.books.specs.declared.places.Place.TheVariants as P
 use Rattle.books.specs.Books.{planted}
-use Rattle.books.specs.Rules.{Query, lookup_in, least_in}
+use Rattle.calls.specs.Asking.{Query}
+use Rattle.calls.specs.Rules.{lookup_in, least_in}
 use Rattle.acts.specs.Acts.{LooksIn, LeastsIn, found}
 use Rattle.acts.proofs.Views.{bare_book, ready_tree}
 

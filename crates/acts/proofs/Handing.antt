@@ -23,18 +23,18 @@ use Rattle.walk.proofs.Stepping.{step_ends}
 use Rattle.walk.proofs.Windows.{shown_fanned}
 use Rattle.books.specs.declared.places.Place.{Place}
 use Rattle.books.specs.declared.places.Place.TheVariants as P
-use Rattle.books.specs.declared.calls.Answer.TheVariants.{Opened, Handed}
-use Rattle.books.specs.Books.{Book, bare, planted, walked, idle, entries, uses, WalkAt}
-use Rattle.books.specs.Meaning.{Sound}
-use Rattle.books.specs.Rules.{handed_in, open_in, step_in}
-use Rattle.books.proofs.Stepping.{step_kept}
+use Rattle.calls.specs.declared.calls.Answer.TheVariants.{Opened, Handed}
+use Rattle.books.specs.Books.{Book, bare, planted, walked, idle, entries, uses, WalkAt, at_bare, at_walk, at_idle, walk_there, idle_there}
+use Rattle.calls.specs.Meaning.{Sound}
+use Rattle.calls.specs.Rules.{handed_in, open_in, step_in}
+use Rattle.calls.proofs.Stepping.{step_kept}
 use Rattle.acts.specs.Acts.{Ready, Becomes, Acts, OpensIn, StepsIn, Drops, ClosesIn, ReleasesIn}
 use Rattle.acts.proofs.Views.{ReadyTree, bare_book, ready_tree}
 
 module _ {K V : Type 0} (compares : K → K → Ordering) (T : Tables K V) where
   -- a walk that is ready, as the walks below see it, and back
   walks_of : (S : Stock) (w : Walk) (h : ℕ) (t : Tree (K × V)) → Ready compares T S (P.Walk w) (walked h t) → Walks T S h t w
-  walks_of S w h t r = let v : WalkAt compares T w h t = r.at in record { sized = r.sized; fits = r.fits; low = v.low; shown = v.shown; owned = r.owned; rooted = v.rooted; counted = v.count_is }
+  walks_of S w h t r = let v : WalkAt compares T w h t = walk_there r.at in record { sized = r.sized; fits = r.fits; low = v.low; shown = v.shown; owned = r.owned; rooted = v.rooted; counted = v.count_is }
 
   walk_at : (S : Stock) (w : Walk) (h : ℕ) (t : Tree (K × V)) → Walks T S h t w → InOrder compares (flat h t) → WalkAt compares T w h t
   walk_at S w h t v o = record { low = v.low; shown = v.shown; rooted = v.rooted; count_is = v.counted; in_order = o }
@@ -56,7 +56,7 @@ module _ {K V : Type 0} (compares : K → K → Ordering) (T : Tables K V) where
     unfolding OpensIn
     opens_nowhere n w o b r m =
         subst (OpenedAs (P.Walk w)) (sym (bare_book compares T p b n m r.at).1)
-        (refl, record { at = nodeless w (ok_same w no_walk (o.none refl)); beside = beside_none T S (λ _. 0); balanced = balanced_none S (λ _. 0) })
+        (refl, record { at = at_idle (nodeless w (ok_same w no_walk (o.none refl))); beside = beside_none T S (λ _. 0); balanced = balanced_none S (λ _. 0) })
 
     module _ (root : NodeRef) (count : ℕ) (e : p ≡ P.Tree root count) where
       pub opens_tree : (w : Walk) → Opens T (Some root) count (Ok w) → OpensIn compares T S p (Ok (P.Walk w))
@@ -67,7 +67,7 @@ module _ {K V : Type 0} (compares : K → K → Ordering) (T : Tables K V) where
           let a = o.some root refl S v.tree (tree_of S root count b v) in
           let u : Walks T S h v.tree w = subst (Walks T S h v.tree) (sym (ok_same w a.walk a.answer)) a.walks in
           subst (OpenedAs (P.Walk w)) (sym v.book_is)
-          (refl, record { at = walk_at S w h v.tree u v.here.in_order; beside = beside_none T S (λ x. occurs x h v.tree); balanced = balanced_none S (λ x. occurs x h v.tree) })
+          (refl, record { at = at_walk _ _ (walk_at S w h v.tree u v.here.in_order); beside = beside_none T S (λ x. occurs x h v.tree); balanced = balanced_none S (λ x. occurs x h v.tree) })
 
       pub opens_lost : (f : Fault) → Opens T (Some root) count (Err f) → (r : Result Place Fault) → OpensIn compares T S p r
       unfolding OpensIn
@@ -84,13 +84,13 @@ module _ {K V : Type 0} (compares : K → K → Ordering) (T : Tables K V) where
     -- none is left
     none_handed : (S : Stock) (w : Walk) (h : ℕ) (t : Tree (K × V)) → Ready compares T S (P.Walk w) (walked h t) → w.left ≡ 0 → Steps S S (walked h t) w None
     none_handed S w h t r z =
-        let v : WalkAt compares T w h t = r.at in
+        let v : WalkAt compares T w h t = walk_there r.at in
         let none : step s h t ≡ None = (step_ends s h t (shown_fanned T (root_least h) (bounds (Some w.front) (Some w.back)) h t v.shown)).1 (nil_from_length (flat h t) (sym v.count_is ∙ z)) in
         subst (λ o. Acts compares T T S S (walked h t) Handed (handed_in h t o) (Ok (P.Walk w, None))) (sym none)
-        (refl, record { at = v; beside = beside_none T S (λ x. occurs x h t); balanced = balanced_none S (λ x. occurs x h t) })
+        (refl, record { at = at_walk _ _ v; beside = beside_none T S (λ x. occurs x h t); balanced = balanced_none S (λ x. occurs x h t) })
 
     none_idle : (S : Stock) (w : Walk) → Nodeless w → Steps S S idle w None
-    none_idle S w e = (refl, record { at = e; beside = beside_none T S (λ _. 0); balanced = balanced_none S (λ _. 0) })
+    none_idle S w e = (refl, record { at = at_idle e; beside = beside_none T S (λ _. 0); balanced = balanced_none S (λ _. 0) })
 
     -- one is handed out
     one_handed : (S S' : Stock) (w w' : Walk) (x : Option (K × V)) (h : ℕ) (t : Tree (K × V)) → WalkAt compares T w h t → Hands s T S S' h t w' (Ok x) → Steps S S' (walked h t) w' x
@@ -99,7 +99,7 @@ module _ {K V : Type 0} (compares : K → K → Ordering) (T : Tables K V) where
         let rest : Sound compares (walked h d.rest) = subst (λ o. Sound compares (handed_in h t o).1) d.step_is (step_kept compares s (walked h t) (fanned, v.in_order)).sound in
         subst (Steps S S' (walked h t) w') (sym (ok_same x (Some d.entry) d.answer))
         (subst (λ o. Acts compares T T S S' (walked h t) Handed (handed_in h t o) (Ok (P.Walk w', Some d.entry))) (sym d.step_is)
-        (refl, record { at = walk_at S' w' h d.rest d.walks rest.1; beside = beside_none T S (λ x. occurs x h t); balanced = d.balanced }))
+        (refl, record { at = at_walk _ _ (walk_at S' w' h d.rest d.walks rest.1); beside = beside_none T S (λ x. occurs x h t); balanced = d.balanced }))
 
     module _ (S S' : Stock) (w w' : Walk) where
       -- where none is left, nothing has changed
@@ -109,14 +109,14 @@ module _ {K V : Type 0} (compares : K → K → Ordering) (T : Tables K V) where
           subst (λ S'. Steps S S' b w' x) (sym n.2) (subst (λ w'. Steps S S b w' x) (sym n.1) (subst (Steps S S b w) (sym (ok_same x None n.0)) a))
 
       handed_at : (x : Option (K × V)) → Stepped s T S S' w w' (Ok x) → (b : Book (K × V)) → Ready compares T S (P.Walk w) b → Steps S S' b w' x
-      handed_at x d bare r = absurd r.at
-      handed_at x d (planted h t) r = absurd r.at
+      handed_at x d bare r = elim r.at [ ]
+      handed_at x d (planted h t) r = elim r.at [ ]
       handed_at x d (walked h t) r =
           elim (cases_lt 0 w.left) [
-            | inl l ↦ one_handed S S' w w' x h t r.at (d.hands h t (walks_of S w h t r) l)
+            | inl l ↦ one_handed S S' w w' x h t (walk_there r.at) (d.hands h t (walks_of S w h t r) l)
             | inr l ↦ let z : w.left ≡ 0 = omega arith in same_handed x d z (walked h t) (none_handed S w h t r z)
           ]
-      handed_at x d idle r = same_handed x d r.at.none_left idle (none_idle S w r.at)
+      handed_at x d idle r = same_handed x d (idle_there r.at).none_left idle (none_idle S w (idle_there r.at))
 
       pub steps_done : (x : Option (K × V)) → Stepped s T S S' w w' (Ok x) → StepsIn compares T S S' w s (Ok (P.Walk w', x))
       unfolding StepsIn
@@ -124,14 +124,14 @@ module _ {K V : Type 0} (compares : K → K → Ordering) (T : Tables K V) where
 
       -- a walk that is ready is not refused
       not_lost : (f : Fault) → Stepped s T S S' w w' (Err f) → (b : Book (K × V)) → Ready compares T S (P.Walk w) b → ⊥
-      not_lost f d bare r = r.at
-      not_lost f d (planted h t) r = r.at
+      not_lost f d bare r = elim r.at [ ]
+      not_lost f d (planted h t) r = elim r.at [ ]
       not_lost f d (walked h t) r =
           elim (cases_lt 0 w.left) [
             | inl l ↦ let a = d.hands h t (walks_of S w h t r) l in err_not_ok f (Some a.entry) a.answer
             | inr l ↦ let z : w.left ≡ 0 = omega arith in err_not_ok f None (d.none_left z).0
           ]
-      not_lost f d idle r = err_not_ok f None (d.none_left r.at.none_left).0
+      not_lost f d idle r = err_not_ok f None (d.none_left (idle_there r.at).none_left).0
 
       pub steps_lost : (f : Fault) → Stepped s T S S' w w' (Err f) → (r : Result (Place × Option (K × V)) Fault) → StepsIn compares T S S' w s r
       unfolding StepsIn
@@ -140,7 +140,7 @@ module _ {K V : Type 0} (compares : K → K → Ordering) (T : Tables K V) where
   -- ---- closing and release
 
   dropped_as : (S S' : Stock) (b : Book (K × V)) (r : Result ℕ Fault) → r ≡ Ok (length (entries b)) → Balanced S S' (λ x. uses x b) (λ _. 0) → Drops compares T S S' b r
-  dropped_as S S' b r e d = subst (Drops compares T S S' b) (sym e) (refl, record { at = tt; beside = beside_none T S (λ x. uses x b); balanced = d })
+  dropped_as S S' b r e d = subst (Drops compares T S S' b) (sym e) (refl, record { at = at_bare; beside = beside_none T S (λ x. uses x b); balanced = d })
 
   -- where there are no nodes
   dropped_none : (S S' : Stock) (b : Book (K × V)) (r : Result ℕ Fault) → length (entries b) ≡ 0 → ((x : ℕ) → uses x b ≡ 0) → (r ≡ Ok 0) × (S' ≡ S) → Drops compares T S S' b r
@@ -150,10 +150,10 @@ module _ {K V : Type 0} (compares : K → K → Ordering) (T : Tables K V) where
 
   module _ (S S' : Stock) where
     closed_at : (w : Walk) (r : Result ℕ Fault) → Closes T S S' w r → (b : Book (K × V)) → Ready compares T S (P.Walk w) b → Drops compares T S S' b r
-    closed_at w r c bare v = absurd v.at
-    closed_at w r c (planted h t) v = absurd v.at
+    closed_at w r c bare v = elim v.at [ ]
+    closed_at w r c (planted h t) v = elim v.at [ ]
     closed_at w r c (walked h t) v = let a = c.held h t (walks_of S w h t v) in dropped_as S S' (walked h t) r a.0 a.1
-    closed_at w r c idle v = dropped_none S S' idle r refl (λ x. refl) (c.none v.at)
+    closed_at w r c idle v = dropped_none S S' idle r refl (λ x. refl) (c.none (idle_there v.at))
 
     pub closes_at : (w : Walk) (r : Result ℕ Fault) → Closes T S S' w r → ClosesIn compares T S S' w r
     unfolding ClosesIn

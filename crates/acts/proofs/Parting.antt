@@ -12,20 +12,21 @@ use Rattle.node.specs.Balance.{Rooted, Unchanged}
 use Rattle.node.specs.Kinds.{root_of}
 use Rattle.node.specs.Shape.{Tree, number, flat}
 use Rattle.node.specs.Store.{Tables, Holds}
-use Rattle.node.proofs.Balances.{beside_none}
+use Rattle.node.proofs.Balances.{beside_none, beside_more, balanced_as}
 use Rattle.node.proofs.Tabled.{err_not_ok, ok_same, err_same}
 use Rattle.cut.specs.declared.split.Cut.{Cut}
 use Rattle.cut.specs.Split.{left_of, right_of, made_of, Split, SplitOr, SplitsOff}
 use Rattle.walk.proofs.Stepping.{some_is}
 use Rattle.books.specs.declared.places.Place.{Place}
 use Rattle.books.specs.declared.places.Place.TheVariants as P
-use Rattle.books.specs.declared.calls.Answer.TheVariants.{Parted}
-use Rattle.books.specs.Books.{Book, bare, planted, TreeAt, BookAt}
-use Rattle.books.specs.Faults.{fault_code}
-use Rattle.books.specs.Meaning.{Sound}
-use Rattle.books.specs.Rules.{Query, Parts, part_tree, cut_in, tree_book}
-use Rattle.books.proofs.Cutting.{Halved, cut_halved}
-use Rattle.acts.specs.Acts.{Halves, CutsBy, CutsIn, counts}
+use Rattle.calls.specs.declared.calls.Answer.TheVariants.{Parted}
+use Rattle.books.specs.Books.{Book, bare, planted, TreeAt, BookAt, at_bare, at_tree}
+use Rattle.calls.specs.Faults.{fault_code}
+use Rattle.calls.specs.Meaning.{Sound}
+use Rattle.calls.specs.Asking.{Query}
+use Rattle.calls.specs.Rules.{Parts, part_tree, cut_in, tree_book}
+use Rattle.calls.proofs.Cutting.{Halved, cut_halved}
+use Rattle.acts.specs.Acts.{BothBecome, CutsBy, CutsIn, counts}
 use Rattle.acts.proofs.Views.{ReadyTree, bare_book, ready_tree}
 
 -- what a cut answers where nothing is cut
@@ -35,11 +36,11 @@ uncut = record { parts = None; counts = (0, 0, 0) }
 module _ {K V : Type 0} (compares : K → K → Ordering) where
   -- the answer and both places, where the rule gives o
   abbrev Comes : Tables K V → Tables K V → Stock → Stock → Book (K × V) → Result (Place × Place × (ℕ × ℕ × ℕ)) Fault → Parts K V → Type 0
-  Comes T T' S S' b r o = MatchResult r (λ y. (o.0 ≡ Ok (counts y.2)) × Halves compares T T' S S' b y.0 y.1 (o.1).0 (o.1).1) (λ f. (o ≡ (Err (fault_code f), (b, bare))) × Unchanged T T' S S')
+  Comes T T' S S' b r o = MatchResult r (λ y. (o.0 ≡ Ok (counts y.2)) × BothBecome compares T T' S S' b bare y.0 y.1 (o.1).0 (o.1).1) (λ f. (o ≡ (Err (fault_code f), (b, bare))) × Unchanged T T' S S')
 
   -- nothing is cut
   stays_whole : (T : Tables K V) (S : Stock) (p : Place) (b : Book (K × V)) → BookAt compares T p b → Comes T T S S b (Ok (p, P.Bare, (0, 0, 0))) (Ok (Parted 0 0 0), (b, bare))
-  stays_whole T S p b a = (refl, record { stays = a; goes = tt; beside = beside_none T S _; balanced = record { size = refl; marks = λ x. omega arith; allowance = refl; aside = refl; bars = λ x. refl } })
+  stays_whole T S p b a = (refl, record { at = a; other = at_bare; beside = beside_none T S _; balanced = record { size = refl; marks = λ x. omega arith; allowance = refl; aside = refl; bars = λ x. refl } })
 
   pub cuts_nowhere : (T : Tables K V) (S : Stock) (p : Place) (place : Query K) → ((root : NodeRef) (count : ℕ) → p ≡ P.Tree root count → ⊥) → CutsIn compares T T S S p place (Ok (p, P.Bare, (0, 0, 0)))
   unfolding CutsIn
@@ -93,7 +94,7 @@ module _ {K V : Type 0} (compares : K → K → Ordering) where
                 (subst (λ c. Comes T T' S S' (planted h t) (Ok (P.Tree root count, P.Bare, c.counts)) (Ok (Parted 0 0 0), (planted h t, bare))) (sym q)
                 (subst (λ T'. Comes T T' S S' (planted h t) (Ok (P.Tree root count, P.Bare, (0, 0, 0))) (Ok (Parted 0 0 0), (planted h t, bare))) (sym u.tables_same)
                 (subst (λ S'. Comes T T S S' (planted h t) (Ok (P.Tree root count, P.Bare, (0, 0, 0))) (Ok (Parted 0 0 0), (planted h t, bare))) (sym u.stock_same)
-                (stays_whole T S (P.Tree root count) (planted h t) here))));
+                (stays_whole T S (P.Tree root count) (planted h t) (at_tree _ _ here)))));
           }
 
       -- a part is held where the cut says
@@ -118,10 +119,10 @@ module _ {K V : Type 0} (compares : K → K → Ordering) where
                 acts = subst (Comes T T' S S' (planted h t) (Ok (P.Tree left cut.counts.0, P.Tree right cut.counts.1, cut.counts))) (sym rule) (
                   ap (λ c. Ok (counts c.counts)) (sym q),
                   record {
-                    stays = part_at left cut.counts.0 (left_of place h t) (ap (λ p. p.0) roots) (ap (λ c. c.counts.0) q) d.halved.left d.halved.left_root sound.left;
-                    goes = part_at right cut.counts.1 (right_of place d.fresh h t) (ap (λ p. p.1) roots) (ap (λ c. c.counts.1) q) d.halved.right d.halved.right_root sound.right;
-                    beside = d.halved.beside;
-                    balanced = d.halved.balanced;
+                    at = at_tree _ _ (part_at left cut.counts.0 (left_of place h t) (ap (λ p. p.0) roots) (ap (λ c. c.counts.0) q) d.halved.left d.halved.left_root sound.left);
+                    other = at_tree _ _ (part_at right cut.counts.1 (right_of place d.fresh h t) (ap (λ p. p.1) roots) (ap (λ c. c.counts.1) q) d.halved.right d.halved.right_root sound.right);
+                    beside = beside_more T T' S _ _ (λ x. omega arith) d.halved.beside;
+                    balanced = balanced_as S S' _ _ _ _ (λ x. omega arith) d.halved.balanced;
                   },
                 );
               }

@@ -15,9 +15,9 @@ use Rattle.walk.proofs.Opening.{whole_shown}
 use Rattle.walk.specs.Window.{bounds}
 use Rattle.books.specs.declared.places.Place.{Place}
 use Rattle.books.specs.declared.places.Place.TheVariants as P
-use Rattle.books.specs.Books.{Book, bare, planted, walked, idle, uses, BookAt, TreeAt}
-use Rattle.books.specs.Meaning.{Sound}
-use Rattle.books.specs.Rules.{kind_of, is_map}
+use Rattle.books.specs.Books.{Book, bare, planted, walked, idle, uses, BookAt, TreeAt, at_bare, at_tree, at_walk, at_idle}
+use Rattle.calls.specs.Meaning.{Sound}
+use Rattle.books.specs.Kinds.{kind_of, is_map}
 use Rattle.acts.specs.Acts.{Ready}
 
 pub record TreeBook {K V : Type 0} (compares : K → K → Ordering) (T : Tables K V) (root : NodeRef) (count : ℕ) (b : Book (K × V)) : Type 0 where
@@ -28,22 +28,14 @@ pub record TreeBook {K V : Type 0} (compares : K → K → Ordering) (T : Tables
 
 module _ {K V : Type 0} (compares : K → K → Ordering) (T : Tables K V) where
   pub tree_book : (root : NodeRef) (count : ℕ) (b : Book (K × V)) → BookAt compares T (P.Tree root count) b → TreeBook compares T root count b
-  tree_book root count bare a = absurd a
-  tree_book root count (planted h t) a = record { height = h; tree = t; book_is = refl; here = a }
-  tree_book root count (walked h t) a = absurd a
-  tree_book root count idle a = absurd a
+  tree_book root count b (at_tree h t a) = record { height = h; tree = t; book_is = refl; here = a }
 
   -- a place without a tree or a walk
   pub bare_book : (p : Place) (b : Book (K × V)) → ((root : NodeRef) (count : ℕ) → p ≡ P.Tree root count → ⊥) → is_map (kind_of b) ≡ true → BookAt compares T p b → (p ≡ P.Bare) × (b ≡ bare)
-  bare_book P.Bare bare n m a = (refl, refl)
-  bare_book P.Bare (planted h t) n m a = absurd a
-  bare_book P.Bare (walked h t) n m a = absurd a
-  bare_book P.Bare idle n m a = absurd a
-  bare_book (P.Tree root count) b n m a = absurd (n root count refl)
-  bare_book (P.Walk w) bare n m a = absurd a
-  bare_book (P.Walk w) (planted h t) n m a = absurd a
-  bare_book (P.Walk w) (walked h t) n m a = cc m
-  bare_book (P.Walk w) idle n m a = cc m
+  bare_book p b n m at_bare = (refl, refl)
+  bare_book (P.Tree root count) b n m (at_tree h t a) = absurd (n root count refl)
+  bare_book p b n m (at_walk h t a) = cc m
+  bare_book p b n m (at_idle a) = cc m
 
 -- a tree in a place that is ready
 pub record ReadyTree {K V : Type 0} (compares : K → K → Ordering) (T : Tables K V) (S : Stock) (root : NodeRef) (count : ℕ) (b : Book (K × V)) : Type 0 where

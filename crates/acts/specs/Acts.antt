@@ -1,6 +1,7 @@
 -- What each call does at one place, where that holds a book.
 --   Ready            a place holds a book in tables of the supply's size, and its nodes are out, each once
 --   Becomes          another place holds another book, in its stead: what is out has changed by just their nodes, and all other nodes are as they were
+--   BothBecome       two places hold two other books, in the same way
 --   Acts             the call answers what the rule does, and the place becomes what the rule gives; or it is refused as by the rule, and nothing has changed
 --   Asks             the same of a call that changes nothing
 --   Counts           a count goes up where no old value is answered
@@ -15,11 +16,13 @@ use Rattle.node.specs.Store.{Tables, Sized}
 use Rattle.walk.specs.declared.walks.Walk.{Walk}
 use Rattle.books.specs.declared.places.Place.{Place}
 use Rattle.books.specs.declared.places.Place.TheVariants as P
-use Rattle.books.specs.declared.calls.Answer.{Answer}
-use Rattle.books.specs.declared.calls.Answer.TheVariants.{Inserted, Found, Least as LeastIs, Parted, Opened, Handed, Dropped}
+use Rattle.calls.specs.declared.calls.Answer.{Answer}
+use Rattle.calls.specs.declared.calls.Answer.TheVariants.{Inserted, Found, Least as LeastIs, Parted, Opened, Handed, Dropped}
 use Rattle.books.specs.Books.{Book, bare, uses, BookAt}
-use Rattle.books.specs.Faults.{fault_code}
-use Rattle.books.specs.Rules.{Query, Part, Parts, kind_of, is_map, insert_in, lookup_in, least_in, cut_in, open_in, step_in, drop_in}
+use Rattle.calls.specs.Faults.{fault_code}
+use Rattle.calls.specs.Asking.{Query}
+use Rattle.books.specs.Kinds.{kind_of, is_map}
+use Rattle.calls.specs.Rules.{Part, Parts, insert_in, lookup_in, least_in, cut_in, open_in, step_in, drop_in}
 
 pub record Ready {K V : Type 0} (compares : K → K → Ordering) (T : Tables K V) (S : Stock) (p : Place) (b : Book (K × V)) : Type 0 where
   pub at : BookAt compares T p b
@@ -32,12 +35,11 @@ pub record Becomes {K V : Type 0} (compares : K → K → Ordering) (T T' : Tabl
   pub beside : Beside T T' S (λ x. uses x b)
   pub balanced : Balanced S S' (λ x. uses x b) (λ x. uses x b')
 
--- two places become of one
-pub record Halves {K V : Type 0} (compares : K → K → Ordering) (T T' : Tables K V) (S S' : Stock) (b : Book (K × V)) (p q : Place) (l r : Book (K × V)) : Type 0 where
-  pub stays : BookAt compares T' p l
-  pub goes : BookAt compares T' q r
-  pub beside : Beside T T' S (λ x. uses x b)
-  pub balanced : Balanced S S' (λ x. uses x b) (λ x. uses x l + uses x r)
+pub record BothBecome {K V : Type 0} (compares : K → K → Ordering) (T T' : Tables K V) (S S' : Stock) (b d : Book (K × V)) (p' q' : Place) (b' d' : Book (K × V)) : Type 0 where
+  pub at : BookAt compares T' p' b'
+  pub other : BookAt compares T' q' d'
+  pub beside : Beside T T' S (λ x. uses x b + uses x d)
+  pub balanced : Balanced S S' (λ x. uses x b + uses x d) (λ x. uses x b' + uses x d')
 
 abbrev pub Acts : {K V X : Type 0} → (K → K → Ordering) → Tables K V → Tables K V → Stock → Stock → Book (K × V) → (X → Answer K V) → Part K V → Result (Place × X) Fault → Type 0
 Acts compares T T' S S' b to o r =
@@ -74,7 +76,7 @@ counts n = Parted n.0 n.1 n.2
 pub record CutsBy {K V : Type 0} (compares : K → K → Ordering) (T T' : Tables K V) (S S' : Stock) (place : Query K) (b : Book (K × V)) (r : Result (Place × Place × (ℕ × ℕ × ℕ)) Fault) : Type 0 where
   pub fresh : ℕ → ℕ
   pub acts : let o : Parts K V = cut_in fresh S.allowance place b in
-      MatchResult r (λ y. (o.0 ≡ Ok (counts y.2)) × Halves compares T T' S S' b y.0 y.1 (o.1).0 (o.1).1) (λ f. (o ≡ (Err (fault_code f), (b, bare))) × Unchanged T T' S S')
+      MatchResult r (λ y. (o.0 ≡ Ok (counts y.2)) × BothBecome compares T T' S S' b bare y.0 y.1 (o.1).0 (o.1).1) (λ f. (o ≡ (Err (fault_code f), (b, bare))) × Unchanged T T' S S')
 
 unfoldable pub CutsIn : {K V : Type 0} → (K → K → Ordering) → Tables K V → Tables K V → Stock → Stock → Place → Query K → Result (Place × Place × (ℕ × ℕ × ℕ)) Fault → Type 0
 CutsIn {K} {V} compares T T' S S' p place r = (b : Book (K × V)) → Ready compares T S p b → is_map (kind_of b) ≡ true → CutsBy compares T T' S S' place b r

@@ -21,7 +21,7 @@ pub fn cut_in<K: KeyOrder, V: Copy, Q: Query<K>, S: Supply>(
 ) -> Result<(Place, Place, (usize, usize, usize)), Fault>
     ensures { CutsIn K.KeyOrder.compares (tables heads.old keys.old values.old) (tables heads.new keys.new values.new) (S.stock supply.old) (S.stock supply.new) here (Q.Placing.places query.now) result }
 {
-    let Place::Tree { root, count } = here else {
+    let Some((root, count)) = here.tree() else {
         return Ok((here, Place::Bare, (0, 0, 0)));
     };
     let cut = split_off(heads, keys, values, supply, root, count, query)?;

@@ -31,7 +31,7 @@ pub fn insert_in<K: KeyOrder, V: Copy, S: Supply>(
 ) -> Result<(Place, Option<V>), Fault>
     ensures { InsertsIn K.KeyOrder.compares (tables heads.old keys.old values.old) (tables heads.new keys.new values.new) (S.stock supply.old) (S.stock supply.new) here (key, val) result }
 {
-    let Place::Tree { root, count } = here else {
+    let Some((root, count)) = here.tree() else {
         let root = insert_first(heads, keys, values, supply, key, val)?;
         return Ok((Place::Tree { root, count: 1 }, None));
     };

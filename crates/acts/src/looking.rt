@@ -17,7 +17,7 @@ pub fn lookup_in<K: KeyOrder, V: Copy, Q: Query<K>>(
 ) -> Result<(Option<V>, usize), Fault>
     ensures { LooksIn K.KeyOrder.compares tables.now here (Q.Placing.places query.now) result }
 {
-    let Place::Tree { root, .. } = here else {
+    let Some((root, _)) = here.tree() else {
         return Ok((None, 0));
     };
     search_tree(tables, root, query)
@@ -31,7 +31,7 @@ pub fn least_in<K: KeyOrder, V: Copy, Q: Query<K>>(
 ) -> Result<Option<(K, V)>, Fault>
     ensures { LeastsIn K.KeyOrder.compares tables.now here (Q.Placing.places query.now) result }
 {
-    let Place::Tree { root, .. } = here else {
+    let Some((root, _)) = here.tree() else {
         return Ok(None);
     };
     search_least(tables, root, query)

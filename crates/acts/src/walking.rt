@@ -17,9 +17,9 @@ pub fn open_in<K: KeyOrder, V, S: Supply>(
 ) -> Result<Place, Fault>
     ensures { OpensIn K.KeyOrder.compares tables.now (S.stock supply.now) here result }
 {
-    let walk = match here {
-        Place::Tree { root, count } => Walk::open(tables, Some(root), count)?,
-        _ => Walk::open(tables, None, 0)?,
+    let walk = match here.tree() {
+        Some((root, count)) => Walk::open(tables, Some(root), count)?,
+        None => Walk::open(tables, None, 0)?,
     };
     Ok(Place::Walk(walk))
 }
@@ -57,8 +57,8 @@ pub fn release_in<K: KeyOrder, V: Copy, S: Supply>(
 ) -> Result<usize, Fault>
     ensures { ReleasesIn K.KeyOrder.compares tables.now (S.stock supply.old) (S.stock supply.new) here result }
 {
-    match here {
-        Place::Tree { root, count } => release(tables, supply, Some(root), count),
-        _ => release(tables, supply, None, 0),
+    match here.tree() {
+        Some((root, count)) => release(tables, supply, Some(root), count),
+        None => release(tables, supply, None, 0),
     }
 }

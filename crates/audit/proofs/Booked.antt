@@ -16,7 +16,7 @@ use Rattle.walk.proofs.Framing.{shown_whole}
 use Rattle.walk.proofs.Leaving.{tops_inside}
 use Rattle.walk.proofs.Windows.{shown_pane}
 use Rattle.books.specs.declared.places.Place.TheVariants as Kind
-use Rattle.books.specs.Books.{Book, bare, planted, walked, idle, uses, TreeAt, WalkAt, BookAt}
+use Rattle.books.specs.Books.{Book, bare, planted, walked, idle, uses, TreeAt, WalkAt, BookAt, at_bare, at_tree, at_walk, at_idle}
 use Rattle.audit.specs.declared.marks.Met.{Met}
 use Rattle.audit.specs.Audits.{Marked, Unmarked, ancestor, node_ref, Leads, TreeSound, TreeWhole, PlaceSound}
 use Rattle.audit.proofs.Showing.{lower}
@@ -44,14 +44,14 @@ module _ {K V : Type 0} (compares : K → K → Ordering) (T : Tables K V) (sz :
         sz,
         (
           planted h t,
-          record {
+          at_tree _ _ (record {
             root_is = ap (λ n. node_ref n h) (sym w.number_is);
             holds = v.holds;
             formed = v.within;
             rooted = ap (λ n. (head_in T.heads n).parent) w.number_is ∙ e;
             count_is = w.count_is;
             in_order = w.in_order;
-          },
+          }),
           s.2,
         ),
       )
@@ -78,10 +78,7 @@ module _ {K V : Type 0} (compares : K → K → Ordering) (T : Tables K V) (sz :
       }
 
   pub planted_by : (root : NodeRef) (count : ℕ) (m m' : Met) (r : Bool) (b : Book (K × V)) → BookAt compares T (Kind.Tree root count) b → Unmarked m (λ x. uses x b) → Planted root count m m' r (λ x. uses x b)
-  planted_by root count m m' r bare w u = absurd w
-  planted_by root count m m' r (planted h t) w u = planted_at root count m m' r h t (ap (λ x. x.height) w.root_is) w u
-  planted_by root count m m' r (walked h t) w u = absurd w
-  planted_by root count m m' r idle w u = absurd w
+  planted_by root count m m' r b (at_tree h t w) u = planted_at root count m m' r h t (ap (λ x. x.height) w.root_is) w u
 
   -- ---- a walk
 
@@ -91,13 +88,16 @@ module _ {K V : Type 0} (compares : K → K → Ordering) (T : Tables K V) (sz :
         sz,
         (
           walked root.height s.0,
-          record { low = l; shown = v.shown; rooted = ap (λ n. (head_in T.heads n).parent) v.number_is ∙ e; count_is = v.count_is; in_order = v.in_order },
+          at_walk _ _ (record { low = l; shown = v.shown; rooted = ap (λ n. (head_in T.heads n).parent) v.number_is ∙ e; count_is = v.count_is; in_order = v.in_order }),
           s.2,
         ),
       )
 
+  pub bare_place : (m : Met) → PlaceSound compares T Kind.Bare m m
+  bare_place m = (sz, (bare, at_bare, λ x. omega arith))
+
   pub idle_book : (w : Walk) (m : Met) → Nodeless w → PlaceSound compares T (Kind.Walk w) m m
-  idle_book w m e = (sz, (idle, e, λ x. omega arith))
+  idle_book w m e = (sz, (idle, at_idle e, λ x. omega arith))
 
   walk_tops : (w : Walk) (h : ℕ) (t : Tree (K × V)) → WalkAt compares T w h t → Tops T.heads h w.front.node
   walk_tops w h t v =
@@ -111,10 +111,8 @@ module _ {K V : Type 0} (compares : K → K → Ordering) (T : Tables K V) (sz :
 
   -- a walk without nodes has no other book than that
   pub idle_whole : (w : Walk) (m : Met) (b : Book (K × V)) → Nodeless w → BookAt compares T (Kind.Walk w) b → Marked m m (λ x. uses x b)
-  idle_whole w m bare e v = absurd v
-  idle_whole w m (planted h t) e v = absurd v
-  idle_whole w m (walked h t) e v = absurd (walk_not_idle w h t v e)
-  idle_whole w m idle e v = λ x. omega arith
+  idle_whole w m b e (at_walk h t v) = absurd (walk_not_idle w h t v e)
+  idle_whole w m b e (at_idle v) = λ x. omega arith
 
   walk_root : (w : Walk) (h : ℕ) (t : Tree (K × V)) → WalkAt compares T w h t → ancestor T.heads h w.front.node ≡ number t
   walk_root w h t v = ancestor_up T.heads h w.front ∙ (lower T (root_least h) (walk_bounds w) h t First w.front v.shown refl).node_is
@@ -130,11 +128,9 @@ module _ {K V : Type 0} (compares : K → K → Ordering) (T : Tables K V) (sz :
     pub whole : TreeWhole compares T (walk_bounds w) root w.left m m' r → (r ≡ true) × Marked m m' v
 
   pub walked_by : (w : Walk) (o : Option NodeRef) (m m' : Met) (r : Bool) (b : Book (K × V)) → (Nodeless w → ⊥) → Climbed T.heads w o → BookAt compares T (Kind.Walk w) b → Unmarked m (λ x. uses x b) → Walked w o m m' r (λ x. uses x b)
-  walked_by w o m m' r bare n f v u = absurd v
-  walked_by w o m m' r (planted h t) n f v u = absurd v
-  walked_by w o m m' r (walked h t) n f v u = record {
+  walked_by w o m m' r b n f (at_walk h t v) u = record {
     root = node_ref (number t) h;
     leads = walk_leads w o h t v f;
     whole = λ g. g t sz (record { number_is = refl; shown = v.shown; count_is = v.count_is; in_order = v.in_order }) u;
   }
-  walked_by w o m m' r idle n f v u = absurd (n v)
+  walked_by w o m m' r b n f (at_idle v) u = absurd (n v)

@@ -167,6 +167,19 @@ fn audit_places<K: KeyOrder, V>(tables: &Tables<'_, K, V>, met: &mut Met, places
     true
 }
 
+/// The same of the places of a register, which are sixteen.
+fn audit_register<K: KeyOrder, V>(
+    tables: &Tables<'_, K, V>,
+    met: &mut Met,
+    register: &Register,
+) -> bool
+    ensures sound { result ≡ true → PlacesSound K.KeyOrder.compares tables.now register.now.places met.old met.new }
+    ensures whole { PlacesWhole K.KeyOrder.compares tables.now register.now.places met.old met.new result }
+    ensures sixteen { length register.now.places ≡ 16 }
+{
+    audit_places(tables, met, register.places())
+}
+
 /// Whether the tables fit together, have `size` nodes, and the supply as many numbers if there are any.
 fn agree<K, V, S: Supply>(tables: &Tables<'_, K, V>, size: usize, supply: &S) -> bool
     ensures { Decides result (Agrees tables.now size (S.stock supply.now)) }
@@ -202,7 +215,7 @@ pub fn audit<K: KeyOrder, V, S: Supply>(
         return false;
     }
     let mut met = Met::new();
-    if !audit_places(tables, &mut met, &register.places) {
+    if !audit_register(tables, &mut met, register) {
         return false;
     }
     met.are_out(supply)

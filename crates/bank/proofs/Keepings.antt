@@ -13,67 +13,47 @@ use Rattle.walk.proofs.Framing.{shown_frame}
 use Rattle.walk.proofs.Windows.{shown_fanned}
 use Rattle.books.specs.declared.places.Place.{Place}
 use Rattle.books.specs.declared.places.Place.TheVariants as P
-use Rattle.books.specs.Books.{Book, bare, planted, walked, idle, uses, book_in, BookAt}
-use Rattle.books.specs.Meaning.{Sound}
+use Rattle.books.specs.Books.{Book, bare, planted, walked, idle, uses, book_in, BookAt, at_bare, at_tree, at_walk, at_idle}
+use Rattle.calls.specs.Meaning.{Sound}
 use Rattle.books.specs.Places.{place_in}
-use Rattle.books.specs.Rules.{kind_of, kind_at}
+use Rattle.books.specs.Kinds.{kind_of, kind_at}
 use Rattle.books.specs.States.{State, Models}
-use Rattle.books.proofs.Placing.{there, elsewhere, replaced, sixteen}
-use Rattle.acts.specs.Acts.{Ready, Becomes, Halves}
+use Rattle.calls.proofs.Placing.{there, elsewhere, replaced, sixteen}
+use Rattle.acts.specs.Acts.{Ready, Becomes, BothBecome}
 
 module _ {K V : Type 0} (compares : K → K → Ordering) where
   pub sound_at : (T : Tables K V) (p : Place) (b : Book (K × V)) → BookAt compares T p b → Sound compares b
-  sound_at T p bare a = tt
-  sound_at T P.Bare (planted h t) a = absurd a
-  sound_at T (P.Tree root count) (planted h t) a = (a.formed, a.in_order)
-  sound_at T (P.Walk w) (planted h t) a = absurd a
-  sound_at T P.Bare (walked h t) a = absurd a
-  sound_at T (P.Tree root count) (walked h t) a = absurd a
-  sound_at T (P.Walk w) (walked h t) a = (shown_fanned T _ _ h t a.shown, a.in_order)
-  sound_at T p idle a = tt
+  sound_at T p b at_bare = tt
+  sound_at T p b (at_tree h t a) = (a.formed, a.in_order)
+  sound_at T p b (at_walk h t a) = (shown_fanned T _ _ h t a.shown, a.in_order)
+  sound_at T p b (at_idle a) = tt
 
   pub kind_same : (T : Tables K V) (p : Place) (b : Book (K × V)) → BookAt compares T p b → kind_of b ≡ kind_at p
-  kind_same T P.Bare bare a = refl
-  kind_same T (P.Tree root count) bare a = absurd a
-  kind_same T (P.Walk w) bare a = absurd a
-  kind_same T P.Bare (planted h t) a = absurd a
-  kind_same T (P.Tree root count) (planted h t) a = refl
-  kind_same T (P.Walk w) (planted h t) a = absurd a
-  kind_same T P.Bare (walked h t) a = absurd a
-  kind_same T (P.Tree root count) (walked h t) a = absurd a
-  kind_same T (P.Walk w) (walked h t) a = refl
-  kind_same T P.Bare idle a = absurd a
-  kind_same T (P.Tree root count) idle a = absurd a
-  kind_same T (P.Walk w) idle a = refl
+  kind_same T p b at_bare = refl
+  kind_same T p b (at_tree h t a) = refl
+  kind_same T p b (at_walk h t a) = refl
+  kind_same T p b (at_idle a) = refl
 
   -- a book that stands beside what changes is still there
   module _ (T T' : Tables K V) (S : Stock) (f : ℕ → ℕ) (z : Beside T T' S f) where
     pub book_beside : (p : Place) (b : Book (K × V)) → ((x : ℕ) → f x + uses x b ≤ mark S x) → BookAt compares T p b → BookAt compares T' p b
-    book_beside P.Bare bare o a = tt
-    book_beside (P.Tree root count) bare o a = absurd a
-    book_beside (P.Walk w) bare o a = absurd a
-    book_beside P.Bare (planted h t) o a = absurd a
-    book_beside (P.Tree root count) (planted h t) o a = record {
+    book_beside p b o at_bare = at_bare
+    book_beside p b o (at_tree h t a) = at_tree _ _ (record {
       root_is = a.root_is;
       holds = beside_holds T T' S f h t z o a.holds;
       formed = a.formed;
       rooted = (z.links (number t) (omega (arith, o (number t), occurs_root h t))).parent_same ∙ a.rooted;
       count_is = a.count_is;
       in_order = a.in_order;
-    }
-    book_beside (P.Walk w) (planted h t) o a = absurd a
-    book_beside P.Bare (walked h t) o a = absurd a
-    book_beside (P.Tree root count) (walked h t) o a = absurd a
-    book_beside (P.Walk w) (walked h t) o a = record {
+    })
+    book_beside p b o (at_walk h t a) = at_walk _ _ (record {
       low = a.low;
       shown = shown_frame T T' _ _ h t z.heads_len (λ x p. z.bodies x (omega (arith, o x))) (λ x p. z.links x (omega (arith, o x, occurs_below x h t))) a.shown;
       rooted = (z.links (number t) (omega (arith, o (number t), occurs_root h t))).parent_same ∙ a.rooted;
       count_is = a.count_is;
       in_order = a.in_order;
-    }
-    book_beside P.Bare idle o a = absurd a
-    book_beside (P.Tree root count) idle o a = absurd a
-    book_beside (P.Walk w) idle o a = a
+    })
+    book_beside p b o (at_idle a) = at_idle a
 
 -- ---- sums over the books
 
@@ -90,6 +70,16 @@ module _ {E : Type 0} where
     where
       size : (bs : List (Book E)) (p : ℕ) → length (slice_set bs p bare) ≡ length bs
       size bs p = length-set bs p bare
+
+  pub uses_three : (bs : List (Book E)) (p o q : ℕ) (x : ℕ) → p < length bs → o < length bs → q < length bs → o ≢ p → q ≢ p → q ≢ o
+      → uses x (book_in bs p) + uses x (book_in bs o) + uses x (book_in bs q) ≤ total (uses x) bs
+  uses_three bs p o q x l k j n n' n'' =
+      let size : length (slice_set bs p bare) ≡ length bs = length-set bs p bare in
+      let a = replaced (uses x) bs p bare l in
+      let b = uses_two (slice_set bs p bare) o q x (subst (λ i. o < i) (sym size) k) (subst (λ i. q < i) (sym size) j) n'' in
+      let c = ap (uses x) (elsewhere bs p o bare n) in
+      let d = ap (uses x) (elsewhere bs p q bare n') in
+      omega (arith, a, b, c, d)
 
 -- ---- the whole bank
 
@@ -131,16 +121,17 @@ module _ {K V : Type 0} (compares : K → K → Ordering) (s : State K V) (bs : 
             (book_beside compares s.tables T' s.stock (λ x. uses x (book_in bs p)) d.beside (place_in s.places q) (book_in bs q)
             (λ x. omega (arith, uses_two bs p q x here (subst (λ n. q < n) (sym m.sixteen) k) n, m.numbers x)) (m.held q k)))
 
-  -- two places, of which the second was bare
-  module _ (T' : Tables K V) (S' : Stock) (p o : ℕ) (l : p < 16) (k : o < 16) (n : p ≢ o) (len : length s.places ≡ 16) (none : book_in bs o ≡ bare) (x y : Place) (b b' : Book (K × V)) (d : Halves compares s.tables T' s.stock S' (book_in bs p) x y b b') where
-    pub two_replaced : Models compares (record { tables = T'; size = s.size; places = slice_set (slice_set s.places p x) o y; stock = S' }) (slice_set (slice_set bs p b) o b')
-    two_replaced = record {
-      sized = beside_sized s.tables T' s.stock (λ z. uses z (book_in bs p)) d.beside m.sized;
+  -- two places become two others
+  module _ (T' : Tables K V) (S' : Stock) (p o : ℕ) (l : p < 16) (k : o < 16) (n : p ≢ o) (len : length s.places ≡ 16) (x y : Place) (b b' : Book (K × V))
+      (d : BothBecome compares s.tables T' s.stock S' (book_in bs p) (book_in bs o) x y b b') where
+    pub both_replaced : Models compares (record { tables = T'; size = s.size; places = slice_set (slice_set s.places p x) o y; stock = S' }) (slice_set (slice_set bs p b) o b')
+    both_replaced = record {
+      sized = beside_sized s.tables T' s.stock (λ z. uses z (book_in bs p) + uses z (book_in bs o)) d.beside m.sized;
       size_is = m.size_is ∙ sym d.beside.heads_len;
       fits = λ z. d.balanced.size ∙ m.fits z;
       sixteen = sixteen (slice_set bs p b) o b' (sixteen bs p b m.sixteen);
       held = λ q z. go q z (cases_eq q o) (cases_eq q p);
-      numbers = λ z. omega (arith, replaced (uses z) bs p b here, replaced (uses z) (slice_set bs p b) o b' there_too, m.numbers z, d.balanced.marks z, ap (uses z) (elsewhere bs p o b (λ e. n (sym e)) ∙ none));
+      numbers = λ z. omega (arith, replaced (uses z) bs p b here, replaced (uses z) (slice_set bs p b) o b' there_too, m.numbers z, d.balanced.marks z, ap (uses z) (elsewhere bs p o b (λ e. n (sym e))));
     }
       where
         here : p < length bs
@@ -163,12 +154,12 @@ module _ {K V : Type 0} (compares : K → K → Ordering) (s : State K V) (bs : 
         go : (q : ℕ) → q < 16 → (q ≡ o) ⊎ (q ≢ o) → (q ≡ p) ⊎ (q ≢ p) → at q
         go q z (inl e) w = subst at (sym e)
             (subst (λ c. BookAt compares T' c (book_in (slice_set (slice_set bs p b) o b') o)) (sym (get_or-set_same (slice_set s.places p x) o y P.Bare (subst (λ i. o < i) (sym long) k)))
-            (subst (λ c. BookAt compares T' y c) (sym (there (slice_set bs p b) o b' there_too)) d.goes))
+            (subst (λ c. BookAt compares T' y c) (sym (there (slice_set bs p b) o b' there_too)) d.other))
         go q z (inr e) (inl e') = subst at (sym e') (apart p n
             (subst (λ c. BookAt compares T' c (book_in (slice_set bs p b) p)) (sym (get_or-set_same s.places p x P.Bare (subst (λ i. p < i) (sym len) l)))
-            (subst (λ c. BookAt compares T' x c) (sym (there bs p b here)) d.stays)))
+            (subst (λ c. BookAt compares T' x c) (sym (there bs p b here)) d.at)))
         go q z (inr e) (inr e') = apart q e
             (subst (λ c. BookAt compares T' c (book_in (slice_set bs p b) q)) (sym (get_or-set_other s.places p q x P.Bare e'))
             (subst (λ c. BookAt compares T' (place_in s.places q) c) (sym (elsewhere bs p q b e'))
-            (book_beside compares s.tables T' s.stock (λ i. uses i (book_in bs p)) d.beside (place_in s.places q) (book_in bs q)
-            (λ i. omega (arith, uses_two bs p q i here (subst (λ j. q < j) (sym m.sixteen) z) e', m.numbers i)) (m.held q z))))
+            (book_beside compares s.tables T' s.stock (λ i. uses i (book_in bs p) + uses i (book_in bs o)) d.beside (place_in s.places q) (book_in bs q)
+            (λ i. omega (arith, uses_three bs p o q i here (subst (λ j. o < j) (sym m.sixteen) k) (subst (λ j. q < j) (sym m.sixteen) z) (λ u. n (sym u)) e' e, m.numbers i)) (m.held q z))))

@@ -1,5 +1,5 @@
 -- Each call of the bank, from its checks and what it does at its places. Assumes nothing.
-use Rattle.std.proofs.Common.{◌≡◌, ℕ, ◌<◌, Bool, true, false, Decides, List, length, slice_set, None, Ok, Err, Option, Result, refl, sym, ap, ◌∙◌, subst}
+use Rattle.std.proofs.Common.{◌≡◌, ℕ, ◌<◌, inl, inr, Bool, true, false, Decides, List, length, slice_set, None, Ok, Err, Option, Result, refl, sym, ap, ◌∙◌, subst}
 use Rattle.std.proofs.lemmas.Bool.{false≢true}
 use Rattle.std.proofs.lemmas.Option.{none-some}
 use Rattle.std.specs.declared.cmp.Ordering.{Ordering}
@@ -9,24 +9,25 @@ use Rattle.order.specs.Laws.{Ordered}
 use Rattle.node.specs.Balance.{Unchanged}
 use Rattle.node.specs.Store.{Tables}
 use Rattle.books.specs.declared.places.Place.{Place}
-use Rattle.books.specs.declared.calls.Answer.{Answer}
-use Rattle.books.specs.declared.calls.Answer.TheVariants.{Inserted, Least as LeastIs, Counted, Opened, Handed, Dropped, Audited}
-use Rattle.books.specs.declared.calls.Call.TheVariants.{Insert, Lookup, Least, Count, Cut, Open, Step, Close, Release, Audit}
+use Rattle.calls.specs.declared.calls.Answer.{Answer}
+use Rattle.calls.specs.declared.calls.Answer.TheVariants.{Inserted, Least as LeastIs, Counted, Opened, Handed, Dropped, Audited}
 use Rattle.node.specs.declared.ends.Side.{Side}
 use Rattle.walk.specs.declared.walks.Walk.{Walk}
 use Rattle.books.specs.declared.places.Place.TheVariants as P
-use Rattle.books.specs.Books.{Book, bare, planted, walked, idle, entries, book_in, BookAt}
-use Rattle.books.specs.Faults.{fault_code}
+use Rattle.books.specs.Books.{Book, bare, planted, walked, idle, entries, book_in, BookAt, at_bare, at_tree, at_walk, at_idle}
+use Rattle.calls.specs.Faults.{fault_code}
 use Rattle.books.specs.Places.{place_in}
-use Rattle.books.specs.Refusals.{Code}
-use Rattle.books.specs.Rules.{Asked as Call, Query, Kind, outcome, check, check_one, check_two, kind_of, is_map, is_walk, is_bare, insert_in, cut_in, open_in, step_in, drop_in}
+use Rattle.calls.specs.Refusals.{Code}
+use Rattle.calls.specs.Asking.{Asked as Call, Query, Insert, Lookup, Least, Count, Cut, Open, Step, Close, Release, Audit}
+use Rattle.books.specs.Kinds.{Kind, kind_of, is_map, is_walk, is_bare, any_kind}
+use Rattle.calls.specs.Rules.{outcome, check, check_one, check_two, insert_in, cut_in, open_in, step_in, drop_in}
 use Rattle.books.specs.States.{State, Models, GoodForm}
-use Rattle.books.proofs.Placing.{one_passes, Two, two_pass, bare_is}
-use Rattle.acts.specs.Acts.{Ready, found, counts, InsertsIn, LooksIn, LeastsIn, CutsIn, OpensIn, StepsIn, ClosesIn, ReleasesIn}
-use Rattle.bank.specs.Calls.{Fit, Met, Reads, Asks, Audits, Performs, count_at}
+use Rattle.calls.proofs.Placing.{one_passes, Two, two_pass, bare_is}
+use Rattle.acts.specs.Acts.{Ready, BothBecome, found, counts, InsertsIn, LooksIn, LeastsIn, CutsIn, OpensIn, StepsIn, ClosesIn, ReleasesIn}
+use Rattle.bank.specs.Calls.{Fit, FailsChecks, Met, Reads, Asks, Audits, Performs, count_at}
 use Rattle.bank.specs.Gate.{Fits, kinds}
 use Rattle.bank.proofs.Keepings.{ready_at, kind_same}
-use Rattle.bank.proofs.Meetings.{met_one, met_two, met_same, met_declined, met_undivided}
+use Rattle.bank.proofs.Meetings.{met_one, met_both, met_same, met_declined, both_declined}
 
 module _ {K V : Type 0} (compares : K → K → Ordering) (c : Call K V) (s s' : State K V) (fit : Fit s) (pass : check (kinds s.places) c ≡ None) (r : Result (Answer K V) Code) where
   -- a call that passed the checks
@@ -40,6 +41,11 @@ module _ {K V : Type 0} (compares : K → K → Ordering) (c : Call K V) (s s' :
     audits = λ _ q. absurd (false≢true (sym none ∙ q));
     meets = λ _ _ bs m. meets bs m;
   }
+
+-- and the checks do not refuse it
+pub not_refused : {K V : Type 0} (c : Call K V) (s : State K V) → Fit s → check (kinds s.places) c ≡ None → FailsChecks c s → ⊥
+not_refused c s fit pass (inl n) = n fit
+not_refused c s fit pass (inr r) = none-some r.1.0 (sym pass ∙ r.1.1)
 
 module _ {K V : Type 0} {compares : K → K → Ordering} (ordered : Ordered compares) (s : State K V) (fit : Fit s) (clear : (x : ℕ) → is_out s.stock x ≡ true → is_barred s.stock x ≡ false) where
   some : 0 < s.size
@@ -88,7 +94,7 @@ module _ {K V : Type 0} {compares : K → K → Ordering} (ordered : Ordered com
         passed compares (Insert p k v) s _ fit w.pass (Ok (Inserted old)) refl (λ n. absurd (false≢true n)) (λ n. absurd (false≢true n)) refl
         (λ bs m.
         let d = i (book_in bs p) (ready is_map p here w bs m) (kind is_map p here w bs m) in
-        met_one ordered s (Insert p k v) clear w.pass bs m p (low is_map p here w) w.long d.fresh d.top (insert_in compares d.fresh d.top s.stock.allowance (k, v) (book_in bs p)) refl T' S' after (Inserted old) d.acts.0 d.acts.1)
+        met_one ordered s (Insert p k v) clear w.pass bs m p (low is_map p here w) w.long (λ _. d.fresh) (λ _. d.top) (insert_in compares d.fresh d.top s.stock.allowance (k, v) (book_in bs p)) refl T' S' after (Inserted old) d.acts.0 d.acts.1)
 
     pub inserted_not : (f : Fault) (e : Code) → e ≡ fault_code f → InsertsIn compares s.tables T' s.stock S' here (k, v) (Err f) → Performs compares (Insert p k v) s (with_places T' S' s.places) (Err e)
     unfolding InsertsIn
@@ -96,7 +102,7 @@ module _ {K V : Type 0} {compares : K → K → Ordering} (ordered : Ordered com
         passed compares (Insert p k v) s _ fit w.pass (Err e) refl (λ n. absurd (false≢true n)) (λ n. absurd (false≢true n)) refl
         (λ bs m.
         let d = i (book_in bs p) (ready is_map p here w bs m) (kind is_map p here w bs m) in
-        met_declined ordered s (Insert p k v) clear w.pass bs m _ (same_state T' S' d.acts.1) p d.fresh d.top
+        met_declined ordered s (Insert p k v) clear w.pass bs m _ (same_state T' S' d.acts.1) p (λ _. d.fresh) (λ _. d.top)
         (insert_in compares d.fresh d.top s.stock.allowance (k, v) (book_in bs p)) refl e (d.acts.0 ∙ ap (λ y. (Err y, book_in bs p)) (sym z)))
 
   module _ (p : ℕ) (place : Query K) (here : Place) (w : Asked is_map p here) where
@@ -105,7 +111,7 @@ module _ {K V : Type 0} {compares : K → K → Ordering} (ordered : Ordered com
     looked_done y i =
         passed compares (Lookup p place) s s fit w.pass (Ok (found y)) refl (λ _. refl) (λ _. refl) refl
         (λ bs m.
-        met_same ordered s (Lookup p place) clear w.pass bs m s refl (λ _. 0) 0 (Ok (found y)) (ap (λ r. outcome r bs) (i s.stock (book_in bs p) (ready is_map p here w bs m) (kind is_map p here w bs m))))
+        met_same ordered s (Lookup p place) clear w.pass bs m s refl (λ _ _. 0) (λ _. 0) (Ok (found y)) (ap (λ r. outcome r bs) (i s.stock (book_in bs p) (ready is_map p here w bs m) (kind is_map p here w bs m))))
 
     pub looked_not : (f : Fault) (e : Code) → LooksIn compares s.tables here place (Err f) → Performs compares (Lookup p place) s s (Err e)
     unfolding LooksIn
@@ -119,7 +125,7 @@ module _ {K V : Type 0} {compares : K → K → Ordering} (ordered : Ordered com
     least_done x i =
         passed compares (Least p place) s s fit w.pass (Ok (LeastIs x)) refl (λ _. refl) (λ _. refl) refl
         (λ bs m.
-        met_same ordered s (Least p place) clear w.pass bs m s refl (λ _. 0) 0 (Ok (LeastIs x)) (ap (λ r. outcome r bs) (i s.stock (book_in bs p) (ready is_map p here w bs m) (kind is_map p here w bs m))))
+        met_same ordered s (Least p place) clear w.pass bs m s refl (λ _ _. 0) (λ _. 0) (Ok (LeastIs x)) (ap (λ r. outcome r bs) (i s.stock (book_in bs p) (ready is_map p here w bs m) (kind is_map p here w bs m))))
 
     pub least_not : (f : Fault) (e : Code) → LeastsIn compares s.tables here place (Err f) → Performs compares (Least p place) s s (Err e)
     unfolding LeastsIn
@@ -128,29 +134,21 @@ module _ {K V : Type 0} {compares : K → K → Ordering} (ordered : Ordered com
         (λ bs m. absurd (i s.stock (book_in bs p) (ready is_map p here w bs m) (kind is_map p here w bs m)))
 
   count_same : (T : Tables K V) (x : Place) (b : Book (K × V)) → BookAt compares T x b → count_at x ≡ length (entries b)
-  count_same T P.Bare bare a = refl
-  count_same T (P.Tree root count) bare a = absurd a
-  count_same T (P.Walk w) bare a = absurd a
-  count_same T P.Bare (planted h t) a = absurd a
-  count_same T (P.Tree root count) (planted h t) a = a.count_is
-  count_same T (P.Walk w) (planted h t) a = absurd a
-  count_same T P.Bare (walked h t) a = absurd a
-  count_same T (P.Tree root count) (walked h t) a = absurd a
-  count_same T (P.Walk w) (walked h t) a = a.count_is
-  count_same T P.Bare idle a = absurd a
-  count_same T (P.Tree root count) idle a = absurd a
-  count_same T (P.Walk w) idle a = a.none_left
+  count_same T x b at_bare = refl
+  count_same T x b (at_tree h t a) = a.count_is
+  count_same T x b (at_walk h t a) = a.count_is
+  count_same T x b (at_idle a) = a.none_left
 
-  pub counted_done : (p : ℕ) (here : Place) → Asked (λ _. true) p here → (n : ℕ) → n ≡ count_at here → Performs compares (Count p) s s (Ok (Counted n))
+  pub counted_done : (p : ℕ) (here : Place) → Asked any_kind p here → (n : ℕ) → n ≡ count_at here → Performs compares (Count p) s s (Ok (Counted n))
   counted_done p here w n q =
       passed compares (Count p) s s fit w.pass (Ok (Counted n)) refl (λ _. refl) (λ _. refl) refl
       (λ bs m.
-      met_same ordered s (Count p) clear w.pass bs m s refl (λ _. 0) 0 (Ok (Counted n))
-      (ap (λ k. outcome (Ok (Counted k)) bs) (sym (q ∙ count_same s.tables here (book_in bs p) (ready (λ _. true) p here w bs m).at))))
+      met_same ordered s (Count p) clear w.pass bs m s refl (λ _ _. 0) (λ _. 0) (Ok (Counted n))
+      (ap (λ k. outcome (Ok (Counted k)) bs) (sym (q ∙ count_same s.tables here (book_in bs p) (ready any_kind p here w bs m).at))))
 
-  module _ (p o : ℕ) (place : Query K) (T' : Tables K V) (S' : Stock) (here : Place) (pass : check_two (kinds s.places) p o ≡ None) (h : here ≡ place_in s.places p) (long : length s.places ≡ 16) where
-    passes : Two (kinds s.places) p o
-    passes = two_pass (kinds s.places) p o pass
+  module _ (p o : ℕ) (place : Query K) (T' : Tables K V) (S' : Stock) (here : Place) (pass : check_two (kinds s.places) is_map is_bare p o ≡ None) (h : here ≡ place_in s.places p) (long : length s.places ≡ 16) where
+    passes : Two (kinds s.places) is_map is_bare p o
+    passes = two_pass (kinds s.places) is_map is_bare p o pass
 
     second_bare : (bs : List (Book (K × V))) → Models compares s bs → book_in bs o ≡ bare
     second_bare bs m = bare_is (book_in bs o) (kind_in o passes.low' bs m is_bare passes.kind')
@@ -162,7 +160,8 @@ module _ {K V : Type 0} {compares : K → K → Ordering} (ordered : Ordered com
         passed compares (Cut p o place) s _ fit pass (Ok (counts n)) refl (λ n. absurd (false≢true n)) (λ n. absurd (false≢true n)) refl
         (λ bs m.
         let d = i (book_in bs p) (ready_in p passes.low bs m here h) (kind_in p passes.low bs m is_map passes.kind) in
-        met_two ordered s (Cut p o place) clear pass bs m p o passes.low passes.low' passes.apart long (second_bare bs m) d.fresh 0 (cut_in d.fresh s.stock.allowance place (book_in bs p)) refl T' S' stays goes (counts n) d.acts.0 d.acts.1)
+        met_both ordered s (Cut p o place) clear pass bs m p o passes.low passes.low' passes.apart long (λ _. d.fresh) (λ _. 0) (cut_in d.fresh s.stock.allowance place (book_in bs p)) refl T' S' stays goes (counts n) d.acts.0
+        (subst (λ b. BothBecome compares s.tables T' s.stock S' (book_in bs p) b stays goes ((cut_in d.fresh s.stock.allowance place (book_in bs p)).1).0 ((cut_in d.fresh s.stock.allowance place (book_in bs p)).1).1) (sym (second_bare bs m)) d.acts.1))
 
     pub cut_not : (f : Fault) (e : Code) → e ≡ fault_code f → CutsIn compares s.tables T' s.stock S' here place (Err f) → Performs compares (Cut p o place) s (with_places T' S' s.places) (Err e)
     unfolding CutsIn
@@ -170,8 +169,8 @@ module _ {K V : Type 0} {compares : K → K → Ordering} (ordered : Ordered com
         passed compares (Cut p o place) s _ fit pass (Err e) refl (λ n. absurd (false≢true n)) (λ n. absurd (false≢true n)) refl
         (λ bs m.
         let d = i (book_in bs p) (ready_in p passes.low bs m here h) (kind_in p passes.low bs m is_map passes.kind) in
-        met_undivided ordered s (Cut p o place) clear pass bs m _ (same_state T' S' d.acts.1) p o passes.apart (second_bare bs m) d.fresh 0
-        (cut_in d.fresh s.stock.allowance place (book_in bs p)) refl e (d.acts.0 ∙ ap (λ y. (Err y, (book_in bs p, bare))) (sym z)))
+        both_declined ordered s (Cut p o place) clear pass bs m _ (same_state T' S' d.acts.1) p o (λ _. d.fresh) (λ _. 0)
+        (cut_in d.fresh s.stock.allowance place (book_in bs p)) refl e (d.acts.0 ∙ ap (λ y. (Err y, (book_in bs p, bare))) (sym z) ∙ ap (λ b. (Err e, (book_in bs p, b))) (sym (second_bare bs m))))
 
   module _ (p : ℕ) (here : Place) (w : Asked is_map p here) where
     pub opened_done : (after : Place) → OpensIn compares s.tables s.stock here (Ok after) → Performs compares (Open p) s (with_places s.tables s.stock (slice_set s.places p after)) (Ok Opened)
@@ -180,7 +179,7 @@ module _ {K V : Type 0} {compares : K → K → Ordering} (ordered : Ordered com
         passed compares (Open p) s _ fit w.pass (Ok Opened) refl (λ _. refl) (λ n. absurd (false≢true n)) refl
         (λ bs m.
         let d = i (book_in bs p) (ready is_map p here w bs m) (kind is_map p here w bs m) in
-        met_one ordered s (Open p) clear w.pass bs m p (low is_map p here w) w.long (λ _. 0) 0 (open_in (book_in bs p)) refl s.tables s.stock after Opened d.0 d.1)
+        met_one ordered s (Open p) clear w.pass bs m p (low is_map p here w) w.long (λ _ _. 0) (λ _. 0) (open_in (book_in bs p)) refl s.tables s.stock after Opened d.0 d.1)
 
     pub opened_not : (f : Fault) (e : Code) → OpensIn compares s.tables s.stock here (Err f) → Performs compares (Open p) s s (Err e)
     unfolding OpensIn
@@ -194,7 +193,7 @@ module _ {K V : Type 0} {compares : K → K → Ordering} (ordered : Ordered com
         passed compares (Release p) s _ fit w.pass (Ok (Dropped n)) refl (λ _. refl) (λ n. absurd (false≢true n)) refl
         (λ bs m.
         let d = i (book_in bs p) (ready is_map p here w bs m) (kind is_map p here w bs m) in
-        met_one ordered s (Release p) clear w.pass bs m p (low is_map p here w) w.long (λ _. 0) 0 (drop_in (book_in bs p)) refl s.tables S' P.Bare (Dropped n) d.0 d.1)
+        met_one ordered s (Release p) clear w.pass bs m p (low is_map p here w) w.long (λ _ _. 0) (λ _. 0) (drop_in (book_in bs p)) refl s.tables S' P.Bare (Dropped n) d.0 d.1)
 
     pub released_not : (S' : Stock) (f : Fault) (e : Code) → ReleasesIn compares s.tables s.stock S' here (Err f) → Performs compares (Release p) s (with_places s.tables S' s.places) (Err e)
     unfolding ReleasesIn
@@ -210,7 +209,7 @@ module _ {K V : Type 0} {compares : K → K → Ordering} (ordered : Ordered com
         passed compares (Step p d) s _ fit w.pass (Ok (Handed x)) refl (λ _. refl) (λ n. absurd (false≢true n)) refl
         (λ bs m.
         let a = i (book_in bs p) (ready is_walk p (P.Walk u) w bs m) in
-        met_one ordered s (Step p d) clear w.pass bs m p (low is_walk p (P.Walk u) w) w.long (λ _. 0) 0 (step_in d (book_in bs p)) refl s.tables S' after (Handed x) a.0 a.1)
+        met_one ordered s (Step p d) clear w.pass bs m p (low is_walk p (P.Walk u) w) w.long (λ _ _. 0) (λ _. 0) (step_in d (book_in bs p)) refl s.tables S' after (Handed x) a.0 a.1)
 
     pub stepped_not : (d : Side) (S' : Stock) (f : Fault) (e : Code) → e ≡ fault_code f → StepsIn compares s.tables s.stock S' u d (Err f) → Performs compares (Step p d) s (with_places s.tables S' s.places) (Err e)
     unfolding StepsIn
@@ -218,7 +217,7 @@ module _ {K V : Type 0} {compares : K → K → Ordering} (ordered : Ordered com
         passed compares (Step p d) s _ fit w.pass (Err e) refl (λ _. refl) (λ n. absurd (false≢true n)) refl
         (λ bs m.
         let a = i (book_in bs p) (ready is_walk p (P.Walk u) w bs m) in
-        met_declined ordered s (Step p d) clear w.pass bs m _ (same_state s.tables S' a.1) p (λ _. 0) 0 (step_in d (book_in bs p)) refl e (a.0 ∙ ap (λ y. (Err y, book_in bs p)) (sym z)))
+        met_declined ordered s (Step p d) clear w.pass bs m _ (same_state s.tables S' a.1) p (λ _ _. 0) (λ _. 0) (step_in d (book_in bs p)) refl e (a.0 ∙ ap (λ y. (Err y, book_in bs p)) (sym z)))
 
     pub closed_done : (S' : Stock) (n : ℕ) → ClosesIn compares s.tables s.stock S' u (Ok n) → Performs compares (Close p) s (with_places s.tables S' (slice_set s.places p P.Bare)) (Ok (Dropped n))
     unfolding ClosesIn
@@ -226,7 +225,7 @@ module _ {K V : Type 0} {compares : K → K → Ordering} (ordered : Ordered com
         passed compares (Close p) s _ fit w.pass (Ok (Dropped n)) refl (λ _. refl) (λ n. absurd (false≢true n)) refl
         (λ bs m.
         let d = i (book_in bs p) (ready is_walk p (P.Walk u) w bs m) in
-        met_one ordered s (Close p) clear w.pass bs m p (low is_walk p (P.Walk u) w) w.long (λ _. 0) 0 (drop_in (book_in bs p)) refl s.tables S' P.Bare (Dropped n) d.0 d.1)
+        met_one ordered s (Close p) clear w.pass bs m p (low is_walk p (P.Walk u) w) w.long (λ _ _. 0) (λ _. 0) (drop_in (book_in bs p)) refl s.tables S' P.Bare (Dropped n) d.0 d.1)
 
     pub closed_not : (S' : Stock) (f : Fault) (e : Code) → ClosesIn compares s.tables s.stock S' u (Err f) → Performs compares (Close p) s (with_places s.tables S' s.places) (Err e)
     unfolding ClosesIn
@@ -242,7 +241,7 @@ module _ {K V : Type 0} {compares : K → K → Ordering} (ordered : Ordered com
     reads = λ _. refl;
     asks = λ _. refl;
     audits = λ _ _. (b, refl, d);
-    meets = λ _ q bs m. met_same ordered s Audit clear q bs m s refl (λ _. 0) 0 (Ok (Audited b)) (ap (λ x. outcome (Ok (Audited x)) bs) (sym (d.1 (bs, m))));
+    meets = λ _ q bs m. met_same ordered s Audit clear q bs m s refl (λ _ _. 0) (λ _. 0) (Ok (Audited b)) (ap (λ x. outcome (Ok (Audited x)) bs) (sym (d.1 (bs, m))));
   }
 
 pub fit_of : {K V : Type 0} (s : State K V) → Fits (length s.tables.heads) (length s.tables.keys) (length s.tables.values) × (s.size ≡ length s.tables.heads) → Fit s

@@ -6,8 +6,8 @@ use Rattle.supply.specs.Stocks.{Stock, marked}
 use Rattle.supply.proofs.StockLaws.{marked_returned}
 use Rattle.node.proofs.Balances.{mark_unused}
 use Rattle.books.specs.declared.places.Place.TheVariants as P
-use Rattle.books.specs.Books.{Book, bare, book_in, BookAt}
-use Rattle.books.specs.Runs.{Runs}
+use Rattle.books.specs.Books.{Book, bare, book_in, BookAt, at_bare}
+use Rattle.calls.specs.Runs.{Runs}
 use Rattle.books.specs.States.{State, Models}
 use Rattle.bank.specs.Layout.{FitsAlone, UnusedSupply, laid, LaysOut}
 
@@ -25,7 +25,7 @@ module _ {K V : Type 0} (compares : K → K → Ordering) (s : State K V) where
     size_is = refl;
     fits = λ _. u.size;
     sixteen = refl;
-    held = λ p l. subst (λ x. BookAt compares s.tables x (book_in (replicate 16 bare) p)) (sym (get_or-replicate 16 p P.Bare P.Bare l)) (subst (λ b. BookAt compares s.tables P.Bare b) (sym (get_or-replicate 16 p none none l)) tt);
+    held = λ p l. subst (λ x. BookAt compares s.tables x (book_in (replicate 16 bare) p)) (sym (get_or-replicate 16 p P.Bare P.Bare l)) (subst (λ b. BookAt compares s.tables P.Bare b) (sym (get_or-replicate 16 p none none l)) at_bare);
     numbers = λ x. omega (arith, mark_unused s.stock x (none_marked s.stock.marks x u.none));
   }
     where

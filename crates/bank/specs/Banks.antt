@@ -1,4 +1,5 @@
 -- A bank with the tables that its caller passes, as one state.
+--   state_of stock b T   the bank b with the tables T; `stock` is the meaning of its supply
 use Rattle.supply.specs.Stocks.{Stock}
 use Rattle.node.specs.Store.{Tables}
 use Rattle.books.specs.States.{State}

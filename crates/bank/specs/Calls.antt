@@ -1,6 +1,7 @@
 -- What a call of a bank does.
 --   Fit s            the tables fit together, and are of the bank's size
 --   told f r         the answer of a call as a value, or the number of its refusal with the values that go with it
+--   FailsChecks c s  the checks of tables and places refuse the call: numbers 1, 3 and 4
 --   Met              on books that model the bank: it models other books, those that the rule of the call gives, with the answer that the rule
 --                    gives. This means for the lists what the call of an ordered map means. A refusal leaves the
 --                    state as it was, and is never for a breach. Over every run up to here the entries come out even. No barred node is written to
@@ -9,21 +10,21 @@
 --   Audits c         the call is an audit; it answers whether the bank is in good form
 --   Keeps            the same of every call, granted or refused
 --   Performs         all this; and of any content: calls that the checks of tables and places refuse are refused, and nothing has changed
-use Rattle.std.specs.Prelude.{◌≡◌, ℕ, Bool, true, false, Decides, List, [], ◌∷◌, length, Some, None, Ok, Err, Result}
+use Rattle.std.specs.Prelude.{◌≡◌, ◌⊎◌, ℕ, Bool, true, false, Decides, List, [], ◌∷◌, length, Some, None, Ok, Err, Result}
 use Rattle.std.specs.declared.cmp.Ordering.{Ordering}
 use Rattle.node.specs.Balance.{Spared}
 use Rattle.books.specs.declared.places.Place.{Place}
 use Rattle.books.specs.declared.places.Place.TheVariants as P
-use Rattle.books.specs.declared.calls.Answer.{Answer}
-use Rattle.books.specs.declared.calls.Answer.TheVariants.{Audited, Opened}
-use Rattle.books.specs.declared.calls.Call.TheVariants.{Insert, Lookup, Least, Count, Cut, Open, Step, Close, Release, Audit}
-use Rattle.books.specs.declared.refusals.Refusal.{Refusal}
+use Rattle.calls.specs.declared.calls.Answer.{Answer}
+use Rattle.calls.specs.declared.calls.Answer.TheVariants.{Audited, Opened}
+use Rattle.calls.specs.declared.refusals.Refusal.{Refusal}
 use Rattle.books.specs.Books.{Book}
-use Rattle.books.specs.Laws.{Numbered}
-use Rattle.books.specs.Meaning.{Agreeing, Means}
-use Rattle.books.specs.Refusals.{Code, code}
-use Rattle.books.specs.Rules.{Asked, check}
-use Rattle.books.specs.Runs.{Event, event, Next, Runs, Even, Low}
+use Rattle.calls.specs.Laws.{Numbered}
+use Rattle.calls.specs.Meaning.{Agreeing, Means}
+use Rattle.calls.specs.Refusals.{Code, code}
+use Rattle.calls.specs.Asking.{Asked}
+use Rattle.calls.specs.Rules.{Shape, asks_at, acts_at, acts_at_both, of_bank, shape, check}
+use Rattle.calls.specs.Runs.{Event, event, Next, Runs, Even, Low}
 use Rattle.books.specs.States.{State, Models, GoodForm}
 use Rattle.bank.specs.Gate.{Fits, kinds}
 
@@ -40,6 +41,9 @@ opened u = Opened
 
 abbrev pub itself : {K V : Type 0} → Answer K V → Answer K V
 itself x = x
+
+abbrev pub FailsChecks : {K V : Type 0} → Asked K V → State K V → Type 0
+FailsChecks c s = (Fit s → ⊥) ⊎ (Fit s × ((e : Code) × (check (kinds s.places) c ≡ Some e)))
 
 -- how many entries a place says that it has
 abbrev pub count_at : Place → ℕ
@@ -59,41 +63,32 @@ pub record Met {K V : Type 0} (compares : K → K → Ordering) (c : Asked K V) 
   pub declined : (e : Code) → r ≡ Err e → s' ≡ s
   pub numbered : (e : Code) → r ≡ Err e → Numbered e
 
+abbrev pub reads_by : {K V : Type 0} → Shape K V → Bool
+reads_by (asks_at p f r) = true
+reads_by (acts_at p f w r) = w
+reads_by (acts_at_both p o f g w r) = w
+reads_by (of_bank x) = true
+
 abbrev pub Reads : {K V : Type 0} → Asked K V → Bool
-Reads (Insert p k v) = false
-Reads (Lookup p q) = true
-Reads (Least p q) = true
-Reads (Count p) = true
-Reads (Cut p o q) = false
-Reads (Open p) = true
-Reads (Step p s) = true
-Reads (Close p) = true
-Reads (Release p) = true
-Reads Audit = true
+Reads c = reads_by (shape c)
+
+abbrev pub asks_by : {K V : Type 0} → Shape K V → Bool
+asks_by (asks_at p f r) = true
+asks_by (acts_at p f w r) = false
+asks_by (acts_at_both p o f g w r) = false
+asks_by (of_bank x) = true
 
 abbrev pub Asks : {K V : Type 0} → Asked K V → Bool
-Asks (Insert p k v) = false
-Asks (Lookup p q) = true
-Asks (Least p q) = true
-Asks (Count p) = true
-Asks (Cut p o q) = false
-Asks (Open p) = false
-Asks (Step p s) = false
-Asks (Close p) = false
-Asks (Release p) = false
-Asks Audit = true
+Asks c = asks_by (shape c)
+
+abbrev pub audits_by : {K V : Type 0} → Shape K V → Bool
+audits_by (asks_at p f r) = false
+audits_by (acts_at p f w r) = false
+audits_by (acts_at_both p o f g w r) = false
+audits_by (of_bank x) = true
 
 abbrev pub Audits : {K V : Type 0} → Asked K V → Bool
-Audits (Insert p k v) = false
-Audits (Lookup p q) = false
-Audits (Least p q) = false
-Audits (Count p) = false
-Audits (Cut p o q) = false
-Audits (Open p) = false
-Audits (Step p s) = false
-Audits (Close p) = false
-Audits (Release p) = false
-Audits Audit = true
+Audits c = audits_by (shape c)
 
 pub record Performs {K V : Type 0} (compares : K → K → Ordering) (c : Asked K V) (s s' : State K V) (r : Result (Answer K V) Code) : Type 0 where
   pub misfit : (Fit s → ⊥) → (r ≡ Err (1, [])) × (s' ≡ s)

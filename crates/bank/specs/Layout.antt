@@ -9,8 +9,8 @@ use Rattle.std.specs.declared.cmp.Ordering.{Ordering}
 use Rattle.supply.specs.Stocks.{Stock, size_of, outs_of}
 use Rattle.books.specs.declared.places.Place.TheVariants as P
 use Rattle.books.specs.Books.{bare}
-use Rattle.books.specs.Refusals.{Code}
-use Rattle.books.specs.Runs.{Runs}
+use Rattle.calls.specs.Refusals.{Code}
+use Rattle.calls.specs.Runs.{Runs}
 use Rattle.books.specs.States.{State, Models}
 use Rattle.bank.specs.Gate.{Fits}
 

@@ -2,6 +2,5 @@ pub mod Banks
 pub mod Calls
 pub mod Fitting
 pub mod Gate
-pub mod Kinds
 pub mod Layout
 pub mod Lists

@@ -3,14 +3,14 @@
 ghost use Rattle.std.specs.Prelude.{◌≡◌};
 ghost use Rattle.bank.specs.Calls.{count_at};
 
-use crate::gate::{CallKind, admit, admit_cut, admit_walk, fit};
+use crate::gate::{admit, admit_both, admit_walk, fit};
 use acts::cutting::cut_in;
 use acts::inserting::insert_in;
 use acts::looking::{least_in, lookup_in};
 use acts::walking::{close_in, open_in, release_in, step_in};
 use audit::audits::audit;
-use books::places::{Place, Register};
-use books::refusals::Refusal;
+use books::places::{CallKind, Place, Register};
+use calls::refusals::Refusal;
 use node::ends::Side;
 use node::head::Head;
 use node::tables::Tables;
@@ -30,7 +30,13 @@ fn count_in(place: Place) -> usize
     }
 }
 
-/// Sixteen ordered books over one supply of nodes. Their nodes stand in tables of the caller, who passes them to every call.
+/// Sixteen ordered books, in places 0 to 15, over one supply of nodes. The nodes of all books stand in three tables of the caller, who passes
+/// them to every call: N heads, 11 · N keys and 11 · N values, N from 1 to 4,096. N is set by laying out.
+///
+/// Each call makes its checks in the order of their numbers, and the first that fails is what it returns: 1 for the tables, 2 for the supply
+/// (laying out alone), 3 for a place above 15, 4 for a place whose kind does not allow the call; all of these leave tables and bank as they
+/// were. 6 names the nodes needed and those that may be taken; tables, register and what the supply means are as they were. 5 is for a bank
+/// in no good form alone, and what stands in tables and bank is then open.
 #[derive(Drop)]
 pub struct Bank<S> {
     size: usize,
@@ -41,19 +47,19 @@ pub struct Bank<S> {
 impl<S: Supply> Bank<S> {
     ghost use Rattle.std.specs.Prelude.{◌≡◌, MatchResult};
     ghost use Rattle.node.specs.Store.{tables};
-    ghost use Rattle.books.specs.declared.calls.Call.TheVariants as Call;
-    ghost use Rattle.books.specs.declared.calls.Answer.TheVariants as Answer;
+    ghost use Rattle.calls.specs.Asking as Call;
+    ghost use Rattle.calls.specs.declared.calls.Answer.TheVariants as Answer;
     ghost use Rattle.bank.specs.Banks.{state_of};
     ghost use Rattle.node.specs.declared.ends.Side.TheVariants as Side;
     ghost use Rattle.acts.specs.Acts.{found, counts};
-    ghost use Rattle.bank.specs.Calls.{told, opened, Performs};
+    ghost use Rattle.bank.specs.Calls.{told, opened, Performs, FailsChecks};
     ghost use Rattle.std.specs.Prelude.{Decides, replicate};
     ghost use Rattle.books.specs.declared.places.Place.TheVariants as Place;
     ghost use Rattle.bank.specs.Layout.{Unused, LaysOut};
     ghost use Rattle.bank.specs.Fitting.{FitsBank, coded};
     ghost use Rattle.books.specs.Places.{NamedPlace};
 
-    /// Refuses tables that do not fit together, or are not of the bank's size.
+    /// Whether tables of these lengths are those of the bank. Refusal 1 where they do not fit together, or N is another.
     pub fn fit(&self, heads: usize, keys: usize, values: usize) -> Result<(), Refusal>
         ensures { FitsBank self.now.size heads keys values result }
     {
@@ -71,7 +77,7 @@ impl<S: Supply> Bank<S> {
         self.supply.size() as usize == heads && self.supply.out_count() == 0
     }
 
-    /// A bank over a supply, without tables and with bare places: it is to be laid out first.
+    /// A bank over a supply, with N 0 and bare places: it is to be laid out first. Each place then stands for a `BTreeMap::new`.
     pub fn new(supply: S) -> Bank<S>
         ensures { (result.size ≡ 0) × (result.register.places ≡ replicate 16 Place.Bare) × (result.supply ≡ supply) }
     {
@@ -82,7 +88,7 @@ impl<S: Supply> Bank<S> {
         }
     }
 
-    /// The bank of these parts.
+    /// The bank of these parts, in good form or not.
     pub fn from_parts(size: usize, register: Register, supply: S) -> Bank<S>
         ensures { (result.size ≡ size) × (result.register ≡ register) × (result.supply ≡ supply) }
     {
@@ -114,7 +120,9 @@ impl<S: Supply> Bank<S> {
         self.register.place(at)
     }
 
-    /// Lays out the tables: takes over their size, and makes every place bare.
+    /// Lays out the tables: N becomes the number of heads, and every place bare, whatever stood there. The supply stays as it is. Refusals, each
+    /// with nothing changed: 1 where N would be 0 or above 4,096, or keys or values are not 11 · N; 2 where the supply has not N numbers, or one
+    /// is out. The original has no such call.
     pub fn lay_out<K: KeyOrder, V>(
         &mut self,
         heads: &[Head],
@@ -123,6 +131,7 @@ impl<S: Supply> Bank<S> {
     ) -> Result<(), Refusal>
         ensures lays_out { LaysOut K.KeyOrder.compares (state_of S.stock self.old (tables heads.now keys.now values.now)) (state_of S.stock self.new (tables heads.now keys.now values.now)) (coded result) }
         ensures supply { self.new.supply ≡ self.old.supply }
+        ensures same { MatchResult result (λ _. Unit {0}) (λ _. self.new ≡ self.old) }
     {
         fit(heads.len(), keys.len(), values.len())?;
         if !self.unused(heads.len()) {
@@ -133,7 +142,9 @@ impl<S: Supply> Bank<S> {
         Ok(())
     }
 
-    /// Puts an entry into a bare place or a tree. Answers the old value, where the key was there.
+    /// Puts an entry into a bare place or a tree, which is a tree then. Where the key is there, it stays and gets the new value, and the old one is
+    /// answered; else none. Refusals: 1, 3, 4 (a walk), with nothing changed; 6 where the key is new and more nodes are needed than may be taken,
+    /// with nothing moved. The original's `try_insert`.
     pub fn insert<K: KeyOrder, V: Copy>(
         &mut self,
         heads: &mut [Head],
@@ -143,7 +154,8 @@ impl<S: Supply> Bank<S> {
         key: K,
         value: V,
     ) -> Result<Option<V>, Refusal>
-        ensures { Performs K.KeyOrder.compares (Call.Insert place key value) (state_of S.stock self.old (tables heads.old keys.old values.old)) (state_of S.stock self.new (tables heads.new keys.new values.new)) (told Answer.Inserted result) }
+        ensures does { Performs K.KeyOrder.compares (Call.Insert place key value) (state_of S.stock self.old (tables heads.old keys.old values.old)) (state_of S.stock self.new (tables heads.new keys.new values.new)) (told Answer.Inserted result) }
+        ensures same { FailsChecks (Call.Insert place key value) (state_of S.stock self.old (tables heads.old keys.old values.old)) → self.new ≡ self.old }
     {
         self.fit(heads.len(), keys.len(), values.len())?;
         let here = admit(&self.register, place, CallKind::Insert)?;
@@ -152,7 +164,8 @@ impl<S: Supply> Bank<S> {
         Ok(old)
     }
 
-    /// The value under the key that is the same as the query, in a bare place or a tree, and the comparisons made.
+    /// The value under the key that is the same as the query, in a bare place or a tree, or none; and how many keys were compared, at most 11 for
+    /// each level. Changes nothing. Refusals: 1, 3, 4 (a walk). The original's `get`.
     pub fn lookup<K: KeyOrder, V: Copy, Q: PointQuery<K>>(
         &self,
         heads: &[Head],
@@ -173,8 +186,8 @@ impl<S: Supply> Bank<S> {
         Ok(lookup_in(&tables, here, query)?)
     }
 
-    /// The least entry that is the same as the query, key and value, in a bare place or a tree, if there is one: of a day, its least batch. Refused
-    /// as a lookup is: for tables that do not fit (1), a place above 15 (3) or a walk (4). It changes nothing.
+    /// The least entry that is the same as the query, key and value, in a bare place or a tree, or none: of a day, its least batch. Changes nothing.
+    /// Refusals: 1, 3, 4 (a walk). The original has no such call.
     pub fn least<K: KeyOrder, V: Copy, Q: Query<K>>(
         &self,
         heads: &[Head],
@@ -195,7 +208,7 @@ impl<S: Supply> Bank<S> {
         Ok(least_in(&tables, here, query)?)
     }
 
-    /// How many entries a place has, or a walk has left.
+    /// How many entries a tree has, or a walk has left; 0 of a bare place. Changes nothing. Refusals: 1, 3. The original's `len`.
     pub fn count<K: KeyOrder, V>(
         &self,
         heads: &[Head],
@@ -211,7 +224,9 @@ impl<S: Supply> Bank<S> {
     }
 
     /// Cuts a bare place or a tree at a query: what is below it stays, and the rest, so all that is the same as it, goes to the bare place
-    /// `other`. Answers the entries left, the entries right and the comparisons made.
+    /// `other`, which has a tree then. Answers the entries left, the entries right and the keys compared; 0, 0, 0 of no entries, with both places
+    /// as they were. Refusals: 1, 3 (either place), 4 (a walk, or a second place that is not bare or is the first), with nothing changed; 6 where
+    /// fewer nodes may be taken than the tree has levels, with nothing moved. The original's `split_off`.
     pub fn cut<K: KeyOrder, V: Copy, Q: Query<K>>(
         &mut self,
         heads: &mut [Head],
@@ -221,17 +236,19 @@ impl<S: Supply> Bank<S> {
         other: usize,
         query: &Q,
     ) -> Result<(usize, usize, usize), Refusal>
-        ensures { Performs K.KeyOrder.compares (Call.Cut place other (Q.Placing.places query.now)) (state_of S.stock self.old (tables heads.old keys.old values.old)) (state_of S.stock self.new (tables heads.new keys.new values.new)) (told counts result) }
+        ensures does { Performs K.KeyOrder.compares (Call.Cut place other (Q.Placing.places query.now)) (state_of S.stock self.old (tables heads.old keys.old values.old)) (state_of S.stock self.new (tables heads.new keys.new values.new)) (told counts result) }
+        ensures same { FailsChecks (Call.Cut place other (Q.Placing.places query.now)) (state_of S.stock self.old (tables heads.old keys.old values.old)) → self.new ≡ self.old }
     {
         self.fit(heads.len(), keys.len(), values.len())?;
-        let here = admit_cut(&self.register, place, other)?;
+        let (here, _) = admit_both(&self.register, place, other, CallKind::Cut, CallKind::CutTo)?;
         let (stays, goes, counts) = cut_in(heads, keys, values, &mut self.supply, here, query)?;
         self.register.set(place, stays);
         self.register.set(other, goes);
         Ok(counts)
     }
 
-    /// Makes a bare place or a tree a walk over all its entries.
+    /// Makes a bare place or a tree a walk over all its entries; writes no table, and leaves the supply as it is. Refusals, with nothing changed:
+    /// 1, 3, 4 (a walk). The original's `into_iter`.
     pub fn open<K: KeyOrder, V>(
         &mut self,
         heads: &[Head],
@@ -239,7 +256,9 @@ impl<S: Supply> Bank<S> {
         values: &[V],
         place: usize,
     ) -> Result<(), Refusal>
-        ensures { Performs K.KeyOrder.compares (Call.Open place) (state_of S.stock self.old (tables heads.now keys.now values.now)) (state_of S.stock self.new (tables heads.now keys.now values.now)) (told opened result) }
+        ensures does { Performs K.KeyOrder.compares (Call.Open place) (state_of S.stock self.old (tables heads.now keys.now values.now)) (state_of S.stock self.new (tables heads.now keys.now values.now)) (told opened result) }
+        ensures same { FailsChecks (Call.Open place) (state_of S.stock self.old (tables heads.now keys.now values.now)) → self.new ≡ self.old }
+        ensures supply { self.new.supply ≡ self.old.supply }
     {
         self.fit(heads.len(), keys.len(), values.len())?;
         let here = admit(&self.register, place, CallKind::Open)?;
@@ -253,7 +272,8 @@ impl<S: Supply> Bank<S> {
         Ok(())
     }
 
-    /// Hands out the entry at one end of a walk, or none where none is left. A node that is left behind goes back to the supply.
+    /// Hands out the entry at one end of a walk, or none where none is left; it stays a walk. A node that is left behind goes back to the supply;
+    /// no table is written. Refusals, with nothing changed: 1, 3, 4 (no walk). The original's `next` and `next_back` of `IntoIter`.
     pub fn step<K: KeyOrder, V: Copy>(
         &mut self,
         heads: &[Head],
@@ -262,7 +282,8 @@ impl<S: Supply> Bank<S> {
         place: usize,
         side: Side,
     ) -> Result<Option<(K, V)>, Refusal>
-        ensures { Performs K.KeyOrder.compares (Call.Step place side) (state_of S.stock self.old (tables heads.now keys.now values.now)) (state_of S.stock self.new (tables heads.now keys.now values.now)) (told Answer.Handed result) }
+        ensures does { Performs K.KeyOrder.compares (Call.Step place side) (state_of S.stock self.old (tables heads.now keys.now values.now)) (state_of S.stock self.new (tables heads.now keys.now values.now)) (told Answer.Handed result) }
+        ensures same { FailsChecks (Call.Step place side) (state_of S.stock self.old (tables heads.now keys.now values.now)) → self.new ≡ self.old }
     {
         self.fit(heads.len(), keys.len(), values.len())?;
         let walk = admit_walk(&self.register, place, CallKind::Step)?;
@@ -276,7 +297,7 @@ impl<S: Supply> Bank<S> {
         Ok(handed)
     }
 
-    /// Hands out the least entry left of a walk.
+    /// Hands out the least entry left of a walk, or none: a step at the front, with its refusals. The original's `next` of `IntoIter`.
     pub fn next<K: KeyOrder, V: Copy>(
         &mut self,
         heads: &[Head],
@@ -284,12 +305,13 @@ impl<S: Supply> Bank<S> {
         values: &[V],
         place: usize,
     ) -> Result<Option<(K, V)>, Refusal>
-        ensures { Performs K.KeyOrder.compares (Call.Step place Side.First) (state_of S.stock self.old (tables heads.now keys.now values.now)) (state_of S.stock self.new (tables heads.now keys.now values.now)) (told Answer.Handed result) }
+        ensures does { Performs K.KeyOrder.compares (Call.Step place Side.First) (state_of S.stock self.old (tables heads.now keys.now values.now)) (state_of S.stock self.new (tables heads.now keys.now values.now)) (told Answer.Handed result) }
+        ensures same { FailsChecks (Call.Step place Side.First) (state_of S.stock self.old (tables heads.now keys.now values.now)) → self.new ≡ self.old }
     {
         self.step(heads, keys, values, place, Side::First)
     }
 
-    /// Hands out the greatest entry left of a walk.
+    /// Hands out the greatest entry left of a walk, or none: a step at the back, with its refusals. The original's `next_back` of `IntoIter`.
     pub fn next_back<K: KeyOrder, V: Copy>(
         &mut self,
         heads: &[Head],
@@ -297,12 +319,14 @@ impl<S: Supply> Bank<S> {
         values: &[V],
         place: usize,
     ) -> Result<Option<(K, V)>, Refusal>
-        ensures { Performs K.KeyOrder.compares (Call.Step place Side.Last) (state_of S.stock self.old (tables heads.now keys.now values.now)) (state_of S.stock self.new (tables heads.now keys.now values.now)) (told Answer.Handed result) }
+        ensures does { Performs K.KeyOrder.compares (Call.Step place Side.Last) (state_of S.stock self.old (tables heads.now keys.now values.now)) (state_of S.stock self.new (tables heads.now keys.now values.now)) (told Answer.Handed result) }
+        ensures same { FailsChecks (Call.Step place Side.Last) (state_of S.stock self.old (tables heads.now keys.now values.now)) → self.new ≡ self.old }
     {
         self.step(heads, keys, values, place, Side::Last)
     }
 
-    /// Closes a walk: gives back its nodes, and leaves the place bare. Answers how many entries were dropped.
+    /// Closes a walk: gives back its nodes, and leaves the place bare; writes no table. Answers how many entries were dropped. Refusals, with
+    /// nothing changed: 1, 3, 4 (no walk). The original's `drop` of `IntoIter`.
     pub fn close<K: KeyOrder, V: Copy>(
         &mut self,
         heads: &[Head],
@@ -310,7 +334,8 @@ impl<S: Supply> Bank<S> {
         values: &[V],
         place: usize,
     ) -> Result<usize, Refusal>
-        ensures { Performs K.KeyOrder.compares (Call.Close place) (state_of S.stock self.old (tables heads.now keys.now values.now)) (state_of S.stock self.new (tables heads.now keys.now values.now)) (told Answer.Dropped result) }
+        ensures does { Performs K.KeyOrder.compares (Call.Close place) (state_of S.stock self.old (tables heads.now keys.now values.now)) (state_of S.stock self.new (tables heads.now keys.now values.now)) (told Answer.Dropped result) }
+        ensures same { FailsChecks (Call.Close place) (state_of S.stock self.old (tables heads.now keys.now values.now)) → self.new ≡ self.old }
     {
         self.fit(heads.len(), keys.len(), values.len())?;
         let walk = admit_walk(&self.register, place, CallKind::Close)?;
@@ -324,7 +349,8 @@ impl<S: Supply> Bank<S> {
         Ok(dropped)
     }
 
-    /// Releases a bare place or a tree: gives back its nodes, and leaves the place bare. Answers how many entries were dropped.
+    /// Releases a bare place or a tree: gives back its nodes, and leaves the place bare; writes no table. Answers how many entries were dropped.
+    /// Refusals, with nothing changed: 1, 3, 4 (a walk). The original's `drop` of the map.
     pub fn release<K: KeyOrder, V: Copy>(
         &mut self,
         heads: &[Head],
@@ -332,7 +358,8 @@ impl<S: Supply> Bank<S> {
         values: &[V],
         place: usize,
     ) -> Result<usize, Refusal>
-        ensures { Performs K.KeyOrder.compares (Call.Release place) (state_of S.stock self.old (tables heads.now keys.now values.now)) (state_of S.stock self.new (tables heads.now keys.now values.now)) (told Answer.Dropped result) }
+        ensures does { Performs K.KeyOrder.compares (Call.Release place) (state_of S.stock self.old (tables heads.now keys.now values.now)) (state_of S.stock self.new (tables heads.now keys.now values.now)) (told Answer.Dropped result) }
+        ensures same { FailsChecks (Call.Release place) (state_of S.stock self.old (tables heads.now keys.now values.now)) → self.new ≡ self.old }
     {
         self.fit(heads.len(), keys.len(), values.len())?;
         let here = admit(&self.register, place, CallKind::Release)?;
@@ -346,7 +373,8 @@ impl<S: Supply> Bank<S> {
         Ok(dropped)
     }
 
-    /// Whether the bank is in good form.
+    /// Whether the bank is in good form with these tables, whatever stands in them, in the register and in the supply. Changes nothing. Refusal: 1.
+    /// The original has no such call.
     pub fn audit<K: KeyOrder, V>(
         &self,
         heads: &[Head],
@@ -370,7 +398,8 @@ impl<S: Supply> Bank<Shares<S>> {
     ghost use Rattle.supply.specs.Callers.{caller_number};
     ghost use Rattle.supply.specs.Shares.{share_for};
 
-    /// Serves a caller, whose register is given. Answers the register of the one that was served.
+    /// Serves a caller, whose register is given, and answers the register of the one that was served. Neither share changes, nor the supply below.
+    /// It makes no check: `SharedBank::turn` does.
     pub fn turn(&mut self, caller: Caller, register: Register) -> Register
         ensures size { self.new.size ≡ self.old.size }
         ensures register { self.new.register ≡ register }

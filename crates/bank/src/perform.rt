@@ -4,8 +4,8 @@ ghost use Rattle.std.specs.Prelude.{◌≡◌, ◌<◌, length, slice_set};
 ghost use Rattle.bank.specs.Lists.{Lesser};
 
 use crate::bank::Bank;
-use books::calls::{Answer, Call};
-use books::refusals::Refusal;
+use calls::calls::{Answer, Call};
+use calls::refusals::Refusal;
 use node::head::Head;
 use order::keys::{KeyOrder, Placing, PointQuery, Query};
 use supply::Supply;
@@ -27,11 +27,12 @@ fn put<T: Copy>(slice: &mut [T], at: usize, item: T)
 
 impl<S: Supply> Bank<S> {
     ghost use Rattle.node.specs.Store.{tables};
-    ghost use Rattle.books.specs.Meaning.{Agreeing};
-    ghost use Rattle.books.specs.Rules.{asked};
+    ghost use Rattle.calls.specs.Meaning.{Agreeing, Pointing};
+    ghost use Rattle.calls.specs.Asking.{asked};
     ghost use Rattle.bank.specs.Banks.{state_of};
-    ghost use Rattle.bank.specs.Calls.{told, itself, Performs, Keeps};
-    ghost use Rattle.bank.specs.Lists.{PerformsAll, first_calls, first_answers};
+    ghost use Rattle.bank.specs.Calls.{told, itself, Performs, Keeps, FailsChecks};
+    ghost use Rattle.bank.specs.Lists.{Chain, PerformsAll, first_calls, first_answers};
+    ghost use Rattle.std.specs.Prelude.{drop};
 
     /// Performs a call by its case.
     fn dispatch<K: KeyOrder, V: Copy, P: PointQuery<K>, Q: Query<K>>(
@@ -41,7 +42,8 @@ impl<S: Supply> Bank<S> {
         values: &mut [V],
         call: &Call<K, V, P, Q>,
     ) -> Result<Answer<K, V>, Refusal>
-        ensures { Performs K.KeyOrder.compares (asked P.Placing.places Q.Placing.places call.now) (state_of S.stock self.old (tables heads.old keys.old values.old)) (state_of S.stock self.new (tables heads.new keys.new values.new)) (told itself result) }
+        ensures does { Performs K.KeyOrder.compares (asked P.Placing.places Q.Placing.places call.now) (state_of S.stock self.old (tables heads.old keys.old values.old)) (state_of S.stock self.new (tables heads.new keys.new values.new)) (told itself result) }
+        ensures same { FailsChecks (asked P.Placing.places Q.Placing.places call.now) (state_of S.stock self.old (tables heads.old keys.old values.old)) → self.new ≡ self.old }
     {
         match call {
             Call::Insert { place, key, value } => {
@@ -91,7 +93,7 @@ impl<S: Supply> Bank<S> {
         }
     }
 
-    /// Performs a call, and answers what it answers.
+    /// Performs a call that is given as a value, and answers what its method answers, with the refusals of that method.
     pub fn perform<K: KeyOrder, V: Copy, P: PointQuery<K>, Q: Query<K>>(
         &mut self,
         heads: &mut [Head],
@@ -101,12 +103,15 @@ impl<S: Supply> Bank<S> {
     ) -> Result<Answer<K, V>, Refusal>
         ensures does { Performs K.KeyOrder.compares (asked P.Placing.places Q.Placing.places call.now) (state_of S.stock self.old (tables heads.old keys.old values.old)) (state_of S.stock self.new (tables heads.new keys.new values.new)) (told itself result) }
         ensures agrees { Agreeing K.KeyOrder.compares (asked P.Placing.places Q.Placing.places call.now) }
+        ensures points { Pointing K.KeyOrder.compares (asked P.Placing.places Q.Placing.places call.now) }
         ensures keeps { Keeps K.KeyOrder.compares (asked P.Placing.places Q.Placing.places call.now) (state_of S.stock self.old (tables heads.old keys.old values.old)) (state_of S.stock self.new (tables heads.new keys.new values.new)) (told itself result) }
+        ensures same { FailsChecks (asked P.Placing.places Q.Placing.places call.now) (state_of S.stock self.old (tables heads.old keys.old values.old)) → self.new ≡ self.old }
     {
         self.dispatch(heads, keys, values, call)
     }
 
-    /// Performs calls one after the other and puts down what each answers, as many as there is room for. Answers how many were performed.
+    /// Performs calls one after the other and puts down what each answers, as many as there is room for. Answers how many were performed;
+    /// answers behind that many stay as they were.
     pub fn perform_all<K: KeyOrder, V: Copy, P: PointQuery<K>, Q: Query<K>>(
         &mut self,
         heads: &mut [Head],
@@ -116,6 +121,8 @@ impl<S: Supply> Bank<S> {
         answers: &mut [Result<Answer<K, V>, Refusal>],
     ) -> usize
         ensures count { Lesser result (length calls.now) (length answers.old) }
+        ensures rest { drop result answers.new ≡ drop result answers.old }
+        ensures chain { Chain K.KeyOrder.compares (first_calls P.Placing.places Q.Placing.places result calls.now) (first_answers result answers.new) (state_of S.stock self.old (tables heads.old keys.old values.old)) (state_of S.stock self.new (tables heads.new keys.new values.new)) }
         ensures all { PerformsAll K.KeyOrder.compares (first_calls P.Placing.places Q.Placing.places result calls.now) (state_of S.stock self.old (tables heads.old keys.old values.old)) (state_of S.stock self.new (tables heads.new keys.new values.new)) (first_answers result answers.new) }
     {
         let count = lesser(calls.len(), answers.len());

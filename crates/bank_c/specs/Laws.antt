@@ -3,8 +3,8 @@
 use Rattle.std.specs.Prelude.{ℕ}
 use Rattle.order.specs.declared.blend.BlendNumber.{BlendNumber}
 use Rattle.node.specs.Store.{Tables}
-use Rattle.books.specs.declared.calls.Answer.{Answer}
-use Rattle.books.specs.Rules.{Asked}
+use Rattle.calls.specs.declared.calls.Answer.{Answer}
+use Rattle.calls.specs.Asking.{Asked}
 use Rattle.bank.specs.Calls.{Keeps}
 use Rattle.bank_c.specs.declared.plain.PlainBank.{PlainBank}
 use Rattle.bank_c.specs.declared.replies.Verdict.{Verdict}

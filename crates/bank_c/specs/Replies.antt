@@ -5,7 +5,7 @@
 --   Refuses v c      the verdict is the refusal c
 --   not_a_bank       the verdict where the fields are not those of a bank
 use Rattle.std.specs.Prelude.{◌≡◌, ◌<◌, Bool, cond, nat_eq, [], ◌∷◌, Some, None, Ok, Err, Option, Result}
-use Rattle.books.specs.Refusals.{Code}
+use Rattle.calls.specs.Refusals.{Code}
 use Rattle.bank_c.specs.declared.replies.Verdict.{Verdict}
 
 abbrev pub optional : {X : Type 0} → Bool → X → Option X

@@ -9,8 +9,8 @@ use Rattle.std.specs.declared.cmp.Ordering.{Ordering}
 use Rattle.std.specs.Ordering.{nat_cmp}
 use Rattle.order.specs.declared.blend.BlendNumber.{BlendNumber}
 use Rattle.node.specs.Store.{Tables}
-use Rattle.books.specs.declared.calls.Answer.{Answer}
-use Rattle.books.specs.Rules.{Asked}
+use Rattle.calls.specs.declared.calls.Answer.{Answer}
+use Rattle.calls.specs.Asking.{Asked}
 use Rattle.bank.specs.Calls.{Performs}
 use Rattle.bank.specs.Layout.{LaysOut}
 use Rattle.bank_c.specs.declared.plain.PlainBank.{PlainBank}

@@ -1,13 +1,15 @@
 //! The calls, under the names that the header declares. Each begins with a check that the fields are those of a bank, which goes through the
-//! whole supply.
+//! whole supply: where they are not, it returns 65,535 and changes nothing. Else it returns 0, or the refusal of the bank's call of that name,
+//! 1 to 6, which leaves what it leaves there. Tables are N heads, 11 · N keys and 11 · N values, N from 1 to 4,096; places are 0 to 15; what a
+//! reply holds beside its code is open where the code is not 0.
 
 ghost use Rattle.std.specs.Prelude.{◌≡◌, replicate};
 ghost use Rattle.supply.specs.Rows.{link_stock};
 ghost use Rattle.supply.specs.Stocks.{fresh, kept_size};
 ghost use Rattle.node.specs.Store.{tables};
 ghost use Rattle.node.specs.declared.ends.Side.TheVariants as Side;
-ghost use Rattle.books.specs.declared.calls.Call.TheVariants as Call;
-ghost use Rattle.books.specs.declared.calls.Answer.TheVariants as Answer;
+ghost use Rattle.calls.specs.Asking as Call;
+ghost use Rattle.calls.specs.declared.calls.Answer.TheVariants as Answer;
 ghost use Rattle.books.specs.declared.places.Place.TheVariants as Place;
 ghost use Rattle.bank_c.specs.Plain.{Spells};
 ghost use Rattle.bank_c.specs.Replies.{optional};
@@ -22,7 +24,7 @@ use node::head::Head;
 use order::blend::BlendNumber;
 use supply::links::Chain;
 
-/// A bank over the numbers below `nodes`, or over none where there are more than 4096. It is to be laid out first.
+/// A bank over the numbers below `nodes`, or over none where that is above 4,096, with N 0 and bare places. It is to be laid out first.
 #[unsafe(no_mangle)]
 pub extern "C" fn bank_new(nodes: u16) -> PlainBank
     ensures { Spells result 0 (replicate 16 Place.Bare) (fresh (kept_size nodes)) }
@@ -30,7 +32,8 @@ pub extern "C" fn bank_new(nodes: u16) -> PlainBank
     PlainBank::of(Bank::new(Chain::new(nodes)))
 }
 
-/// Lays out the tables: takes over their size, and makes every place bare.
+/// Lays out the tables: N becomes the number of heads, and every place bare. Refusals: 65,535, 1, and 2 where the supply has not N numbers or one
+/// is out, each with nothing changed.
 #[unsafe(no_mangle)]
 pub extern "C" fn bank_lay_out(
     bank: &mut PlainBank,
@@ -48,7 +51,8 @@ pub extern "C" fn bank_lay_out(
     Verdict::of(answer)
 }
 
-/// Puts an entry into a bare place or a tree.
+/// Puts an entry into a bare place or a tree: `replaced` says whether the key was there, and `old` is its old value. Refusals: 65,535, 1, 3, 4, 6,
+/// each with nothing changed. `try_insert` of the original.
 #[unsafe(no_mangle)]
 pub extern "C" fn bank_insert(
     bank: &mut PlainBank,
@@ -76,7 +80,8 @@ pub extern "C" fn bank_insert(
     InsertReply::of(answer)
 }
 
-/// The value under a key of a bare place or a tree.
+/// The value under a key of a bare place or a tree, where `found` says so, and how many keys were compared. Refusals: 65,535, 1, 3, 4. `get` of
+/// the original.
 #[unsafe(no_mangle)]
 pub extern "C" fn bank_lookup(
     bank: &PlainBank,
@@ -94,7 +99,7 @@ pub extern "C" fn bank_lookup(
     LookupReply::of(inner.lookup(heads, keys, values, place, &BlendNumber { number: key }))
 }
 
-/// How many entries a place has, or a walk has left.
+/// How many entries a place has, or a walk has left. Refusals: 65,535, 1, 3. `len` of the original.
 #[unsafe(no_mangle)]
 pub extern "C" fn bank_count(
     bank: &PlainBank,
@@ -111,7 +116,8 @@ pub extern "C" fn bank_count(
     CountReply::of(inner.count(heads, keys, values, place))
 }
 
-/// Cuts a bare place or a tree at a key: what is below it stays, and the rest goes to the bare place `other`.
+/// Cuts a bare place or a tree at a key: what is below it stays, and the rest goes to the bare place `other`. Answers the entries of both and how
+/// many keys were compared. Refusals: 65,535, 1, 3, 4, 6, each with nothing changed. `split_off` of the original.
 #[unsafe(no_mangle)]
 pub extern "C" fn bank_cut(
     bank: &mut PlainBank,
@@ -139,7 +145,7 @@ pub extern "C" fn bank_cut(
     CutReply::of(answer)
 }
 
-/// Makes a bare place or a tree a walk over all its entries.
+/// Makes a bare place or a tree a walk over all its entries. Refusals: 65,535, 1, 3, 4, each with nothing changed. `into_iter` of the original.
 #[unsafe(no_mangle)]
 pub extern "C" fn bank_open(
     bank: &mut PlainBank,
@@ -158,7 +164,7 @@ pub extern "C" fn bank_open(
     Verdict::of(answer)
 }
 
-/// Hands out the least entry left of a walk.
+/// Hands out the least entry left of a walk, where `handed` says so. Refusals: 65,535, 1, 3, 4, each with nothing changed. `next` of the original.
 #[unsafe(no_mangle)]
 pub extern "C" fn bank_next(
     bank: &mut PlainBank,
@@ -177,7 +183,7 @@ pub extern "C" fn bank_next(
     StepReply::of(answer)
 }
 
-/// Hands out the greatest entry left of a walk.
+/// Hands out the greatest entry left of a walk, where `handed` says so. Refusals as of `bank_next`. `next_back` of the original.
 #[unsafe(no_mangle)]
 pub extern "C" fn bank_next_back(
     bank: &mut PlainBank,
@@ -196,7 +202,7 @@ pub extern "C" fn bank_next_back(
     StepReply::of(answer)
 }
 
-/// Closes a walk, and leaves the place bare.
+/// Closes a walk, leaves the place bare, and answers how many entries were dropped. Refusals as of `bank_next`.
 #[unsafe(no_mangle)]
 pub extern "C" fn bank_close(
     bank: &mut PlainBank,
@@ -215,7 +221,7 @@ pub extern "C" fn bank_close(
     CountReply::of(answer)
 }
 
-/// Releases a bare place or a tree, and leaves the place bare.
+/// Releases a bare place or a tree, leaves the place bare, and answers how many entries were dropped. Refusals as of `bank_next`.
 #[unsafe(no_mangle)]
 pub extern "C" fn bank_release(
     bank: &mut PlainBank,
@@ -234,7 +240,7 @@ pub extern "C" fn bank_release(
     CountReply::of(answer)
 }
 
-/// Whether the bank is in good form.
+/// Whether the bank is in good form. Refusals: 65,535, 1.
 #[unsafe(no_mangle)]
 pub extern "C" fn bank_audit(
     bank: &PlainBank,

@@ -102,7 +102,7 @@ fn register_of(places: [PlainPlace; PLACES]) -> Register
     ensures { result.places ≡ map place_of places }
 {
     let places = places.map(|place| place.place());
-    Register { places }
+    Register::of(places)
 }
 
 /// The fields of the places.
@@ -110,7 +110,7 @@ fn places_of(register: Register) -> [PlainPlace; PLACES]
     ensures same { map place_of result ≡ register.places }
     ensures known { All (λ p. p.kind ≤ 2) result }
 {
-    register.places.map(|place| PlainPlace::of(place))
+    register.into_places().map(|place| PlainPlace::of(place))
 }
 
 /// The fields of a bank, which may also hold anything else.

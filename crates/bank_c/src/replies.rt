@@ -3,7 +3,7 @@
 ghost use Rattle.std.specs.Prelude.{◌≡◌, ◌<◌};
 ghost use Rattle.bank_c.specs.Replies.{optional};
 
-use books::refusals::Refusal;
+use calls::refusals::Refusal;
 use order::blend::BlendNumber;
 
 /// Whether a call was granted, by number 0, or else the number of its refusal. Nodes needed and allowance go with number 6, and are 0 beside
@@ -18,8 +18,8 @@ pub struct Verdict {
 
 impl Verdict {
     ghost use Rattle.std.specs.Prelude.{ℕ};
-    ghost use Rattle.books.specs.Refusals.{code};
-    ghost use Rattle.books.specs.declared.calls.Answer.TheVariants.{Opened};
+    ghost use Rattle.calls.specs.Refusals.{code};
+    ghost use Rattle.calls.specs.declared.calls.Answer.TheVariants.{Opened};
     ghost use Rattle.order.specs.declared.blend.BlendNumber.{BlendNumber as Key};
     ghost use Rattle.bank.specs.Calls.{told, opened};
     ghost use Rattle.bank.specs.Fitting.{coded};
@@ -86,7 +86,7 @@ pub struct InsertReply {
 }
 
 impl InsertReply {
-    ghost use Rattle.books.specs.declared.calls.Answer.TheVariants.{Inserted};
+    ghost use Rattle.calls.specs.declared.calls.Answer.TheVariants.{Inserted};
     ghost use Rattle.order.specs.declared.blend.BlendNumber.{BlendNumber as Key};
     ghost use Rattle.bank.specs.Calls.{told};
     ghost use Rattle.bank_c.specs.Replies.{told_by};
@@ -132,7 +132,7 @@ pub struct LookupReply {
 }
 
 impl LookupReply {
-    ghost use Rattle.books.specs.declared.calls.Answer.TheVariants.{Found};
+    ghost use Rattle.calls.specs.declared.calls.Answer.TheVariants.{Found};
     ghost use Rattle.order.specs.declared.blend.BlendNumber.{BlendNumber as Key};
     ghost use Rattle.acts.specs.Acts.{found};
     ghost use Rattle.bank.specs.Calls.{told};
@@ -180,7 +180,7 @@ pub struct CountReply {
 
 impl CountReply {
     ghost use Rattle.std.specs.Prelude.{ℕ};
-    ghost use Rattle.books.specs.declared.calls.Answer.{Answer};
+    ghost use Rattle.calls.specs.declared.calls.Answer.{Answer};
     ghost use Rattle.order.specs.declared.blend.BlendNumber.{BlendNumber as Key};
     ghost use Rattle.bank.specs.Calls.{told};
     ghost use Rattle.bank_c.specs.Replies.{told_by};
@@ -219,7 +219,7 @@ pub struct CutReply {
 
 impl CutReply {
     ghost use Rattle.std.specs.Prelude.{ℕ};
-    ghost use Rattle.books.specs.declared.calls.Answer.TheVariants.{Parted};
+    ghost use Rattle.calls.specs.declared.calls.Answer.TheVariants.{Parted};
     ghost use Rattle.order.specs.declared.blend.BlendNumber.{BlendNumber as Key};
     ghost use Rattle.acts.specs.Acts.{counts};
     ghost use Rattle.bank.specs.Calls.{told};
@@ -265,7 +265,7 @@ pub struct StepReply {
 }
 
 impl StepReply {
-    ghost use Rattle.books.specs.declared.calls.Answer.TheVariants.{Handed};
+    ghost use Rattle.calls.specs.declared.calls.Answer.TheVariants.{Handed};
     ghost use Rattle.bank.specs.Calls.{told};
     ghost use Rattle.bank_c.specs.Replies.{told_by};
     ghost use Rattle.bank_c.specs.Serves.{blend};
@@ -315,7 +315,7 @@ pub struct AuditReply {
 
 impl AuditReply {
     ghost use Rattle.std.specs.Prelude.{ℕ};
-    ghost use Rattle.books.specs.declared.calls.Answer.TheVariants.{Audited};
+    ghost use Rattle.calls.specs.declared.calls.Answer.TheVariants.{Audited};
     ghost use Rattle.order.specs.declared.blend.BlendNumber.{BlendNumber as Key};
     ghost use Rattle.bank.specs.Calls.{told};
     ghost use Rattle.bank_c.specs.Replies.{told_by};

@@ -2,8 +2,8 @@
 
 use crate::desk::FREE;
 use bank::bank::Bank;
-use books::calls::{Answer, Call};
-use books::refusals::Refusal;
+use calls::calls::{Answer, Call};
+use calls::refusals::Refusal;
 use node::ends::Side;
 use node::head::{CAPACITY, Head};
 use order::blend::BlendNumber;

@@ -1,8 +1,9 @@
 //! A bank with its tables, asked by calls that are given as values.
 
 use bank::bank::Bank;
-use books::calls::{Answer, Call};
-use books::refusals::Refusal;
+use books::places::{PLACES, Place};
+use calls::calls::{Answer, Call};
+use calls::refusals::Refusal;
 use node::ends::Side;
 use node::head::Head;
 use order::blend::BlendNumber;
@@ -168,6 +169,45 @@ pub fn by_methods<S: Supply + Drop>(
     }
 }
 
+/// The most nodes that a bank may have whose content is compared.
+const MOST: usize = 16;
+
+/// What a bank keeps: what stands in each place, which numbers are out, and how many more may be taken.
+#[derive(Clone, Copy, PartialEq, Eq, Debug)]
+pub struct Kept {
+    places: [Option<Place>; PLACES],
+    out: [bool; MOST],
+    allowance: u16,
+}
+
+impl Kept {
+    pub fn of<S: Supply>(rt: &impl Abort, bank: &Bank<S>) -> Kept {
+        let supply = bank.supply();
+        assert!(rt; supply.size() as usize <= MOST);
+        let mut kept = Kept {
+            places: [None; PLACES],
+            out: [false; MOST],
+            allowance: supply.allowance(),
+        };
+        for at in 0..PLACES {
+            kept.places[at] = bank.place(at);
+        }
+        for node in 0..MOST {
+            kept.out[node] = supply.is_out(node as u16);
+        }
+        kept
+    }
+}
+
+/// What a bank keeps, and its tables.
+#[derive(Clone, Copy, PartialEq, Eq, Debug)]
+pub struct Content {
+    kept: Kept,
+    heads: [Head; MOST],
+    keys: [BlendNumber; MOST * 11],
+    values: [u32; MOST * 11],
+}
+
 /// A bank that is laid out, with its tables.
 #[derive(Drop)]
 pub struct Desk<S> {
@@ -223,44 +263,34 @@ impl<S: Supply + Drop> Desk<S> {
         }
     }
 
-    /// A number that tells one content of the tables from another.
-    fn digest(&self) -> u64 {
-        let mut sum = 0u64;
-        for head in &self.heads {
-            for field in [head.parent, head.place, head.len] {
-                sum = sum.wrapping_mul(31).wrapping_add(field as u64);
-            }
-            for edge in head.edges {
-                sum = sum.wrapping_mul(31).wrapping_add(edge as u64);
-            }
+    /// All that the desk has.
+    pub fn content(&self, rt: &impl Abort) -> Content {
+        let mut content = Content {
+            kept: Kept::of(rt, &self.bank),
+            heads: [FREE; MOST],
+            keys: [BlendNumber::from(7); MOST * 11],
+            values: [7; MOST * 11],
+        };
+        assert!(rt; self.heads.len() <= MOST && self.keys.len() == self.values.len());
+        for (copy, head) in content.heads.iter_mut().zip(&self.heads) {
+            *copy = *head;
         }
-        for key in &self.keys {
-            sum = sum.wrapping_mul(31).wrapping_add(key.number as u64);
+        for (copy, key) in content.keys.iter_mut().zip(&self.keys) {
+            *copy = *key;
         }
-        for value in &self.values {
-            sum = sum.wrapping_mul(31).wrapping_add(*value as u64);
+        for (copy, value) in content.values.iter_mut().zip(&self.values) {
+            *copy = *value;
         }
-        sum
-    }
-
-    /// How many entries each place has, how many nodes are out and may be taken, and what tells the tables.
-    fn counts(&mut self) -> ([Told; 16], u16, u16, u64) {
-        let mut counts = [none_left(); 16];
-        for place in 0..16usize {
-            counts[place] = self.ask(count(place));
-        }
-        let supply = self.bank.supply();
-        let digest = self.digest();
-        (counts, supply.out_count(), supply.allowance(), digest)
+        content
     }
 
     /// Asks for calls that are refused, and sees that nothing changed.
     pub fn refuses(&mut self, rt: &impl Abort, calls: &[Ask], refusal: Refusal) {
-        let counts = self.counts();
+        let content = self.content(rt);
         for call in calls {
             let told = self.good(rt, *call);
             assert_eq!(rt; told, Err(refusal), "of {call:?}");
-            assert!(rt; self.counts() == counts, "after {call:?}");
+            assert_eq!(rt; self.content(rt), content, "after {call:?}");
         }
     }
 

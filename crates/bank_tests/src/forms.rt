@@ -1,7 +1,7 @@
 //! Tables that something else wrote to: the audit says no, and each call still returns.
 
 use crate::desk::{Desk, calls, open};
-use books::calls::{Answer, Call};
+use calls::calls::{Answer, Call};
 use node::head::NULL;
 use order::blend::BlendNumber;
 use std::test::Fail;

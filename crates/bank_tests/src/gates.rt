@@ -1,8 +1,8 @@
 //! Which places there are, and which calls each kind of place allows.
 
 use crate::desk::{Ask, Desk, calls, count, counted, cut, handed, next, open, parted};
-use books::calls::{Answer, Call};
-use books::refusals::Refusal;
+use calls::calls::{Answer, Call};
+use calls::refusals::Refusal;
 use std::process::Abort;
 use std::test::Fail;
 use supply::Supply;

@@ -1,12 +1,11 @@
 //! Laying out, and tables that do not go with the bank.
 
 use crate::desk::{
-    Ask, Desk, FREE, Told, by_methods, calls, close, count, counted, dropped, next, none_left,
-    open, release,
+    Ask, Desk, FREE, Kept, Told, by_methods, calls, close, dropped, next, none_left, open, release,
 };
 use bank::bank::Bank;
-use books::calls::{Answer, Call};
-use books::refusals::Refusal;
+use calls::calls::{Answer, Call};
+use calls::refusals::Refusal;
 use node::head::Head;
 use order::blend::BlendNumber;
 use std::alloc::{AllocError, Global};
@@ -79,9 +78,10 @@ fn a_bank_is_laid_out_again_once_nothing_is_out(rt: HostRuntime) -> Result<(), F
     let mut desk = Desk::new(rt.alloc(), Chain::new(3), true)?;
     desk.fill(&rt, 0, &[5]);
     desk.plays(&rt, &[(open(3), Ok(Answer::Opened), 1)]);
+    let content = desk.content(&rt);
     let again = desk.bank.lay_out(&desk.heads, &desk.keys, &desk.values);
     assert_eq!(rt; again, Err(Refusal::Supply));
-    desk.finds(&rt, 0, &[(5, true, 1)]);
+    assert_eq!(rt; desk.content(&rt), content);
     desk.plays(
         &rt,
         &[(next(3), none_left(), 1), (release(0), dropped(1), 0)],
@@ -109,7 +109,7 @@ fn asked<S: Supply + Drop>(
     bank.perform(heads, &mut keys[..cells], &mut values[..cells], call)
 }
 
-/// Asks each call on a place, and the audit, with tables of another size than the bank's: all are refused.
+/// Asks each call on a place, and the audit, with tables of another size than the bank's: all are refused, and the bank is as it was.
 fn refused<S: Supply + Drop>(
     rt: &impl Abort,
     bank: &mut Bank<S>,
@@ -117,6 +117,7 @@ fn refused<S: Supply + Drop>(
     cells: usize,
     place: usize,
 ) {
+    let kept = Kept::of(rt, bank);
     for methods in [true, false] {
         for call in calls(place) {
             let told = asked(bank, heads, cells, &call, methods);
@@ -125,6 +126,7 @@ fn refused<S: Supply + Drop>(
         let told = asked(bank, heads, cells, &Call::Audit, methods);
         assert_eq!(rt; told, Err(Refusal::Tables));
     }
+    assert_eq!(rt; Kept::of(rt, bank), kept);
 }
 
 #[test]
@@ -133,17 +135,17 @@ fn a_bank_that_is_not_laid_out_refuses_each_call(rt: HostRuntime) {
     refused(&rt, &mut bank, &mut [FREE; 3], 33, 0);
     refused(&rt, &mut bank, &mut [FREE; 3], 33, 16);
     refused(&rt, &mut bank, &mut [], 0, 0);
-    assert_eq!(rt; bank.supply().allowance(), 3);
 }
 
 #[test]
 fn tables_of_another_size_are_refused(rt: HostRuntime) -> Result<(), Fail> {
     let mut desk = Desk::new(rt.alloc(), Bitmap::new(3), true)?;
     desk.fill(&rt, 0, &[5]);
+    let content = desk.content(&rt);
     refused(&rt, &mut desk.bank, &mut [FREE; 4], 44, 0);
     refused(&rt, &mut desk.bank, &mut [FREE; 2], 22, 0);
     refused(&rt, &mut desk.bank, &mut [FREE; 3], 32, 0);
     refused(&rt, &mut desk.bank, &mut [FREE; 3], 34, 16);
-    desk.plays(&rt, &[(count(0), counted(1), 1)]);
+    assert_eq!(rt; desk.content(&rt), content);
     Ok(())
 }

@@ -12,4 +12,6 @@ mod gates;
 #[cfg(test)]
 mod layouts;
 #[cfg(test)]
+mod lots;
+#[cfg(test)]
 mod trees;

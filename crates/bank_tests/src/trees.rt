@@ -4,8 +4,8 @@ use crate::desk::{
     Desk, close, count, counted, cut, dropped, handed, insert, lookup, next, next_back, none_left,
     open, parted, release,
 };
-use books::calls::Answer;
-use books::refusals::Refusal;
+use calls::calls::Answer;
+use calls::refusals::Refusal;
 use std::process::Abort;
 use std::test::Fail;
 use supply::Supply;

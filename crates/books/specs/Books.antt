@@ -60,9 +60,18 @@ pub record WalkAt {K V : Type 0} (compares : K → K → Ordering) (T : Tables K
   pub count_is : w.left ≡ length (flat h t)
   pub in_order : InOrder compares (flat h t)
 
-abbrev pub BookAt : {K V : Type 0} → (K → K → Ordering) → Tables K V → Place → Book (K × V) → Type 0
-BookAt compares T Kind.Bare bare = Unit {0}
-BookAt compares T (Kind.Tree root count) (planted h t) = TreeAt compares T root count h t
-BookAt compares T (Kind.Walk w) (walked h t) = WalkAt compares T w h t
-BookAt compares T (Kind.Walk w) idle = Nodeless w
-BookAt compares T p b = ⊥
+pub data BookAt {K V : Type 0} (compares : K → K → Ordering) (T : Tables K V) : Place → Book (K × V) → Type 0 where
+  at_bare : BookAt compares T Kind.Bare bare
+  at_tree : {root : NodeRef} {count : ℕ} (h : ℕ) (t : Tree (K × V)) → TreeAt compares T root count h t → BookAt compares T (Kind.Tree root count) (planted h t)
+  at_walk : {w : Walk} (h : ℕ) (t : Tree (K × V)) → WalkAt compares T w h t → BookAt compares T (Kind.Walk w) (walked h t)
+  at_idle : {w : Walk} → Nodeless w → BookAt compares T (Kind.Walk w) idle
+
+-- what stands in a place that holds such a book
+abbrev pub tree_there : {K V : Type 0} {compares : K → K → Ordering} {T : Tables K V} {root : NodeRef} {count h : ℕ} {t : Tree (K × V)} → BookAt compares T (Kind.Tree root count) (planted h t) → TreeAt compares T root count h t
+tree_there (at_tree h t a) = a
+
+abbrev pub walk_there : {K V : Type 0} {compares : K → K → Ordering} {T : Tables K V} {w : Walk} {h : ℕ} {t : Tree (K × V)} → BookAt compares T (Kind.Walk w) (walked h t) → WalkAt compares T w h t
+walk_there (at_walk h t a) = a
+
+abbrev pub idle_there : {K V : Type 0} {compares : K → K → Ordering} {T : Tables K V} {w : Walk} → BookAt compares T (Kind.Walk w) idle → Nodeless w
+idle_there (at_idle a) = a

@@ -1,10 +1,4 @@
 pub mod Books
-pub mod Cases
-pub mod Faults
-pub mod Laws
-pub mod Meaning
+pub mod Kinds
 pub mod Places
-pub mod Refusals
-pub mod Rules
-pub mod Runs
 pub mod States

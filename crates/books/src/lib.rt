@@ -1,7 +1,4 @@
-//! The places of a bank, the calls on them, and what they mean.
+//! The places of a bank, and the books that stand in them.
 #![tactic(auto)]
 
-pub mod calls;
-pub mod laws;
 pub mod places;
-pub mod refusals;

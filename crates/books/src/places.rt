@@ -14,10 +14,82 @@ pub enum Place {
     Walk(Walk),
 }
 
+/// The kinds of calls on a place, and on the second of two.
+#[derive(Clone, Copy, PartialEq, Eq, Debug)]
+pub enum CallKind {
+    Insert,
+    Lookup,
+    Least,
+    Count,
+    Cut,
+    /// The second place of a cut, to which what is not below the query goes.
+    CutTo,
+    Open,
+    Step,
+    Close,
+    Release,
+}
+
+impl Place {
+    ghost use Rattle.std.specs.Prelude.{◌≡◌};
+    ghost use Rattle.books.specs.Kinds.{kind_at, allowed, HoldsTree};
+
+    /// Whether what stands here allows a call of this kind.
+    pub fn allows(self, call: CallKind) -> bool
+        ensures { result ≡ allowed call (kind_at self) }
+    {
+        match self {
+            Place::Bare => match call {
+                CallKind::Insert
+                | CallKind::Lookup
+                | CallKind::Least
+                | CallKind::Count
+                | CallKind::Cut
+                | CallKind::CutTo
+                | CallKind::Open
+                | CallKind::Release => true,
+                CallKind::Step | CallKind::Close => false,
+            },
+            Place::Tree { .. } => match call {
+                CallKind::Insert
+                | CallKind::Lookup
+                | CallKind::Least
+                | CallKind::Count
+                | CallKind::Cut
+                | CallKind::Open
+                | CallKind::Release => true,
+                CallKind::CutTo | CallKind::Step | CallKind::Close => false,
+            },
+            Place::Walk(_) => match call {
+                CallKind::Count | CallKind::Step | CallKind::Close => true,
+                CallKind::Insert
+                | CallKind::Lookup
+                | CallKind::Least
+                | CallKind::Cut
+                | CallKind::CutTo
+                | CallKind::Open
+                | CallKind::Release => false,
+            },
+        }
+    }
+
+    /// The root and the number of entries of the tree that stands here; none in a bare place or a walk.
+    #[inline(always)]
+    pub fn tree(self) -> Option<(NodeRef, usize)>
+        ensures { HoldsTree self result }
+    {
+        match self {
+            Place::Bare => None,
+            Place::Tree { root, count } => Some((root, count)),
+            Place::Walk(_) => None,
+        }
+    }
+}
+
 /// The places, by number.
 #[derive(Clone, Copy, PartialEq, Eq, Debug)]
 pub struct Register {
-    pub places: [Place; PLACES],
+    places: [Place; PLACES],
 }
 
 impl Register {
@@ -32,6 +104,27 @@ impl Register {
         Register {
             places: [Place::Bare; PLACES],
         }
+    }
+
+    /// The register of these places.
+    pub fn of(places: [Place; PLACES]) -> Register
+        ensures { result.places ≡ places }
+    {
+        Register { places }
+    }
+
+    /// The places, by number.
+    pub fn places(&self) -> &[Place; PLACES]
+        ensures { result.now ≡ self.now.places }
+    {
+        &self.places
+    }
+
+    /// The places themselves.
+    pub fn into_places(self) -> [Place; PLACES]
+        ensures { result ≡ self.places }
+    {
+        self.places
     }
 
     /// What stands in a place, if there is such a one.

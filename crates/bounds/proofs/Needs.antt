@@ -11,15 +11,15 @@ use Rattle.node.proofs.Balances.{mark_most}
 use Rattle.node.proofs.Frames.{held_low}
 use Rattle.node.proofs.Heights.{many_nodes, fewest_five}
 use Rattle.node.proofs.Weaves.{total_at}
-use Rattle.books.specs.declared.calls.Answer.{Answer}
-use Rattle.books.specs.declared.calls.Call.TheVariants.{Cut}
+use Rattle.calls.specs.declared.calls.Answer.{Answer}
 use Rattle.books.specs.declared.places.Place.{Place}
-use Rattle.books.specs.declared.places.Place.TheVariants as P
-use Rattle.books.specs.Books.{Book, bare, planted, walked, idle, book_in, uses, BookAt}
-use Rattle.books.specs.Refusals.{Code}
-use Rattle.books.specs.Rules.{Query, Kind, kind_of, is_map, is_bare, no_place, wrong_kind, check_two, checked, cut_in, part_tree, rule, Outcome}
+use Rattle.books.specs.Books.{Book, bare, planted, walked, idle, book_in, uses, BookAt, at_tree}
+use Rattle.calls.specs.Refusals.{Code}
+use Rattle.calls.specs.Asking.{Query, Cut}
+use Rattle.books.specs.Kinds.{Kind, kind_of, is_map, is_bare}
+use Rattle.calls.specs.Rules.{no_place, wrong_kind, check_two, checked, cut_in, part_tree, rule, Outcome}
 use Rattle.books.specs.States.{State, Models}
-use Rattle.books.proofs.Keeping.{ok_err}
+use Rattle.calls.proofs.Keeping.{ok_err}
 use Rattle.bank.specs.Gate.{kinds}
 use Rattle.bounds.specs.Bounds.{NodesLeast, NodesWithin, TreesLow, CutNeeds}
 
@@ -42,9 +42,7 @@ bare_planted : {E : Type 0} (h : ℕ) (t : Tree E) → ◌≡◌ {A = Book E} ba
 bare_planted h t q = let z : ◌≡◌ {A = ℕ} 0 1 = cc in omega arith
 
 tree_at : {K V : Type 0} (compares : K → K → Ordering) (T : Tables K V) (p : Place) (h : ℕ) (t : Tree (K × V)) → BookAt compares T p (planted h t) → Holds T h t × Formed h t
-tree_at compares T P.Bare h t b = absurd b
-tree_at compares T (P.Tree root count) h t b = (b.holds, b.formed)
-tree_at compares T (P.Walk w) h t b = absurd b
+tree_at compares T p h t (at_tree _ _ a) = (a.holds, a.formed)
 
 module _ {K V : Type 0} (compares : K → K → Ordering) (s : State K V) (bs : List (Book (K × V))) (m : Models compares s bs) where
   tree_low : (p h : ℕ) (t : Tree (K × V)) → book_in bs p ≡ planted h t → h ≤ 5
@@ -83,7 +81,7 @@ wrong e q z = let y : ◌≡◌ {A = ℕ} 4 e.0 = cc in omega arith
 both : (b : Bool) (x y : Option Code) → Other x → Other y → Other (cond b x y)
 both b x y f g = cond_both b x y Other (λ _. f) (λ _. g)
 
-two_other : (kinds : ℕ → Kind) (p o : ℕ) → Other (check_two kinds p o)
+two_other : (kinds : ℕ → Kind) (p o : ℕ) → Other (check_two kinds is_map is_bare p o)
 two_other kinds p o =
     both (nat_lt p 16) _ _ (both (nat_lt o 16) _ _ (both (is_map (kinds p)) _ _ (both (is_bare (kinds o)) _ _ (both (nat_eq p o) _ _ wrong (λ e q z. none-some e q)) wrong) wrong) far) far
 
@@ -105,21 +103,21 @@ module _ {K V : Type 0} (fresh : ℕ → ℕ) (a : ℕ) (place : Query K) (n k :
   cut_short (walked h t) q = absurd (err_four n k q)
   cut_short idle q = absurd (err_four n k q)
 
-module _ {K V : Type 0} (compares : K → K → Ordering) (fresh : ℕ → ℕ) (top a p o : ℕ) (place : Query K) (bs : List (Book (K × V))) (n k : ℕ) where
-  rule_short : (rule compares fresh top a (Cut p o place) bs).answer ≡ Err (Six n k) → Short fresh a place n k (book_in bs p)
-  rule_short q = go (check_two (λ x. kind_of (book_in bs x)) p o) (two_other (λ x. kind_of (book_in bs x)) p o) q
+module _ {K V : Type 0} (compares : K → K → Ordering) (fresh : ℕ → ℕ → ℕ) (top : ℕ → ℕ) (a p o : ℕ) (place : Query K) (bs : List (Book (K × V))) (n k : ℕ) where
+  rule_short : (rule compares fresh top a (Cut p o place) bs).answer ≡ Err (Six n k) → Short (fresh 0) a place n k (book_in bs p)
+  rule_short q = go (check_two (λ x. kind_of (book_in bs x)) is_map is_bare p o) (two_other (λ x. kind_of (book_in bs x)) p o) q
     where
-      go : (c : Option Code) → Other c → (checked compares fresh top a (Cut p o place) bs c).answer ≡ Err (Six n k) → Short fresh a place n k (book_in bs p)
-      go None f r = cut_short fresh a place n k (book_in bs p) r
+      go : (c : Option Code) → Other c → (checked compares fresh top a (Cut p o place) bs c).answer ≡ Err (Six n k) → Short (fresh 0) a place n k (book_in bs p)
+      go None f r = cut_short (fresh 0) a place n k (book_in bs p) r
       go (Some e) f r = absurd (f e refl (ap (λ (c : Code). c.0) (err_same e (Six n k) r)))
 
 pub trees_low : {K V : Type 0} → TreesLow K V
 trees_low compares s bs m p h t e = tree_low compares s bs m p h t e
 
 pub cut_needs : {K V : Type 0} → CutNeeds K V
-cut_needs {K} {V} compares s s' bs p o place r n a f m w e = go (check_two (kinds s.places) p o) refl
+cut_needs {K} {V} compares s s' bs p o place r n a f m w e = go (check_two (kinds s.places) is_map is_bare p o) refl
   where
-    go : (c : Option Code) → check_two (kinds s.places) p o ≡ c → (n ≤ 6) × (s.stock.allowance < n)
+    go : (c : Option Code) → check_two (kinds s.places) is_map is_bare p o ≡ c → (n ≤ 6) × (s.stock.allowance < n)
     go (Some d) q =
         absurd (two_other (kinds s.places) p o d q (ap (λ (c : Code). c.0) (err_same {X = Answer K V} d (Six n a) (sym (w.refused f d q).0 ∙ e))))
     go None q =

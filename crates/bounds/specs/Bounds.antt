@@ -7,11 +7,10 @@ use Rattle.std.specs.Prelude.{◌≡◌, ℕ, ◌+◌, ◌-◌, ◌/◌, ◌^◌
 use Rattle.std.specs.declared.cmp.Ordering.{Ordering}
 use Rattle.node.specs.Shape.{Tree, Formed}
 use Rattle.node.specs.Laws.{nodes}
-use Rattle.books.specs.declared.calls.Answer.{Answer}
-use Rattle.books.specs.declared.calls.Call.TheVariants.{Cut}
+use Rattle.calls.specs.declared.calls.Answer.{Answer}
 use Rattle.books.specs.Books.{Book, planted, book_in}
-use Rattle.books.specs.Refusals.{Code}
-use Rattle.books.specs.Rules.{Query}
+use Rattle.calls.specs.Refusals.{Code}
+use Rattle.calls.specs.Asking.{Query, Cut}
 use Rattle.books.specs.States.{State, Models}
 use Rattle.bank.specs.Calls.{Fit, Performs}
 

@@ -1,4 +1,4 @@
-//! A bank whose tables stand within larger ones, so that what stands beside them shows.
+//! A bank with its tables, and what its calls have to leave as it was.
 
 ghost use Rattle.std.specs.Prelude.{◌≤◌};
 
@@ -10,6 +10,8 @@ use acts::walking::{close_in, open_in, release_in, step_in};
 use audit::audits::audit_place;
 use audit::marks::Met;
 use bank::bank::Bank;
+use books::places::{PLACES, Place};
+use calls::refusals::Refusal;
 use node::head::{CAPACITY, Head};
 use node::tables::Tables;
 use order::blend::BlendNumber;
@@ -20,27 +22,57 @@ const MOST: u16 = 24;
 
 const CELLS: usize = CAPACITY * MOST as usize;
 
-/// How many cells stand before the tables, and how many behind.
-const MARGIN: usize = 4;
-
-const MARGIN_HEAD: Head = Head {
+/// The tables before anything is written to them.
+const CLEAR_HEAD: Head = Head {
     parent: 771,
     place: 772,
     len: 773,
     edges: [774; 12],
 };
 
-const MARGIN_KEY: BlendNumber = BlendNumber { number: 775 };
+const CLEAR_KEY: BlendNumber = BlendNumber { number: 775 };
 
-const MARGIN_VALUE: u32 = 776;
+const CLEAR_VALUE: u32 = 776;
+
+/// What the bank keeps and its tables: places, which numbers are out, how many more may be taken, heads and cells.
+#[derive(Clone, Copy, PartialEq, Eq)]
+struct Content {
+    places: [Option<Place>; PLACES],
+    out: [bool; MOST as usize],
+    allowance: u16,
+    heads: [Head; MOST as usize],
+    keys: [BlendNumber; CELLS],
+    values: [u32; CELLS],
+}
+
+/// How often the calls of a bank kept what they have to keep, and how often they did not.
+#[derive(Clone, Copy)]
+pub struct Tally {
+    /// In good form before and afterwards, and no breach was found.
+    pub good: usize,
+    /// In good form before, and not afterwards, or a breach was found.
+    pub lost: usize,
+    /// Refused, and something had changed.
+    pub changed: usize,
+}
+
+impl Tally {
+    pub fn new() -> Tally {
+        Tally {
+            good: 0,
+            lost: 0,
+            changed: 0,
+        }
+    }
+}
 
 /// The tables and the bank over them.
 #[derive(Drop)]
 pub struct Ground {
     nodes: u16,
-    heads: [Head; MOST as usize + 2 * MARGIN],
-    keys: [BlendNumber; CELLS + 2 * MARGIN],
-    values: [u32; CELLS + 2 * MARGIN],
+    heads: [Head; MOST as usize],
+    keys: [BlendNumber; CELLS],
+    values: [u32; CELLS],
     supply: Chain,
     bank: Bank<Chain>,
     ghost some: { nodes ≤ 24 },
@@ -53,17 +85,13 @@ impl Ground {
     /// A bank of so many nodes, at most `MOST`, laid out with bare places.
     pub fn new(nodes: u16) -> Ground {
         let nodes = if nodes <= MOST { nodes } else { MOST };
-        let heads = [MARGIN_HEAD; MOST as usize + 2 * MARGIN];
-        let keys = [MARGIN_KEY; CELLS + 2 * MARGIN];
-        let values = [MARGIN_VALUE; CELLS + 2 * MARGIN];
+        let heads = [CLEAR_HEAD; MOST as usize];
+        let keys = [CLEAR_KEY; CELLS];
+        let values = [CLEAR_VALUE; CELLS];
         let mut bank = Bank::new(Chain::new(nodes));
         let count = nodes as usize;
         let cells = CAPACITY * count;
-        let _ = bank.lay_out(
-            &heads[MARGIN..MARGIN + count],
-            &keys[MARGIN..MARGIN + cells],
-            &values[MARGIN..MARGIN + cells],
-        );
+        let _ = bank.lay_out(&heads[..count], &keys[..cells], &values[..cells]);
         Ground {
             nodes,
             heads,
@@ -77,11 +105,11 @@ impl Ground {
     /// Fills the tables with anything.
     pub fn litter(&mut self, dice: &mut Dice) {
         for node in 0..self.nodes {
-            self.heads[MARGIN + node as usize] = dice.head(self.nodes);
+            self.heads[node as usize] = dice.head(self.nodes);
         }
         for cell in 0..CAPACITY * self.nodes as usize {
-            self.keys[MARGIN + cell] = dice.key();
-            self.values[MARGIN + cell] = dice.word();
+            self.keys[cell] = dice.key();
+            self.values[cell] = dice.word();
         }
     }
 
@@ -92,10 +120,13 @@ impl Ground {
             let key = dice.key();
             let count = self.nodes as usize;
             let cells = CAPACITY * count;
+            let heads = &mut self.heads[..];
+            let keys = &mut self.keys[..];
+            let values = &mut self.values[..];
             let _ = self.bank.insert(
-                &mut self.heads[MARGIN..MARGIN + count],
-                &mut self.keys[MARGIN..MARGIN + cells],
-                &mut self.values[MARGIN..MARGIN + cells],
+                &mut heads[..count],
+                &mut keys[..cells],
+                &mut values[..cells],
                 place,
                 key,
                 7,
@@ -110,23 +141,80 @@ impl Ground {
             let node = dice.below(self.nodes);
             if node < self.nodes {
                 let node = node as usize;
-                self.heads[MARGIN + node] = dice.head(self.nodes);
-                self.keys[MARGIN + CAPACITY * node] = dice.key();
+                self.heads[node] = dice.head(self.nodes);
+                self.keys[CAPACITY * node] = dice.key();
             }
         }
     }
 
-    /// Performs any call of the bank.
-    pub fn call(&mut self, dice: &mut Dice) {
-        let call = dice.call();
+    /// Whether the bank is in good form.
+    fn good(&self) -> bool {
         let count = self.nodes as usize;
         let cells = CAPACITY * count;
-        let _ = self.bank.perform(
-            &mut self.heads[MARGIN..MARGIN + count],
-            &mut self.keys[MARGIN..MARGIN + cells],
-            &mut self.values[MARGIN..MARGIN + cells],
+        let audited = self.bank.audit(
+            &self.heads[..count],
+            &self.keys[..cells],
+            &self.values[..cells],
+        );
+        audited == Ok(true)
+    }
+
+    fn content(&self) -> Content {
+        let supply = self.bank.supply();
+        let mut content = Content {
+            places: [None; PLACES],
+            out: [false; MOST as usize],
+            allowance: supply.allowance(),
+            heads: self.heads,
+            keys: self.keys,
+            values: self.values,
+        };
+        for at in 0..PLACES {
+            content.places[at] = self.bank.place(at);
+        }
+        for node in 0..MOST {
+            content.out[node as usize] = supply.is_out(node);
+        }
+        content
+    }
+
+    /// Performs any call of the bank, and puts down whether it kept what it has to keep: good form, and, where it is refused, all. Of what
+    /// is not in good form a breach or a refusal for want of nodes may leave anything.
+    pub fn call(&mut self, dice: &mut Dice, tally: &mut Tally) {
+        let call = dice.call();
+        let before = self.content();
+        let good = self.good();
+        let count = self.nodes as usize;
+        let cells = CAPACITY * count;
+        let heads = &mut self.heads[..];
+        let keys = &mut self.keys[..];
+        let values = &mut self.values[..];
+        let told = self.bank.perform(
+            &mut heads[..count],
+            &mut keys[..cells],
+            &mut values[..cells],
             &call,
         );
+        let breach = told == Err(Refusal::Breach);
+        let keeps_all = match told {
+            Ok(_) => false,
+            Err(Refusal::Breach | Refusal::Short { .. }) => good,
+            Err(
+                Refusal::Tables
+                | Refusal::Supply
+                | Refusal::Place
+                | Refusal::Kind
+                | Refusal::Caller,
+            ) => true,
+        };
+        if good && self.good() && !breach {
+            tally.good = tally.good.saturating_add(1);
+        } else if good {
+            tally.lost = tally.lost.saturating_add(1);
+        }
+        if keeps_all && self.content() != before {
+            tally.changed = tally.changed.saturating_add(1);
+        }
     }
 
     /// Performs any call on what stands in a place, whatever that is, over a supply of its own.
@@ -146,9 +234,9 @@ impl Ground {
             supply,
             ..
         } = self;
-        let heads = &mut heads[MARGIN..MARGIN + count];
-        let keys = &mut keys[MARGIN..MARGIN + cells];
-        let values = &mut values[MARGIN..MARGIN + cells];
+        let heads = &mut heads[..count];
+        let keys = &mut keys[..cells];
+        let values = &mut values[..cells];
         match dice.below(9) {
             0 => {
                 let _ = insert_in(heads, keys, values, supply, here, key, 8u32);
@@ -235,20 +323,5 @@ impl Ground {
                 );
             }
         }
-    }
-
-    /// Whether the cells before and behind the tables are as they were.
-    pub fn margins_kept(&self) -> bool {
-        let count = self.nodes as usize;
-        let cells = CAPACITY * count;
-        let heads = |head: &Head| *head == MARGIN_HEAD;
-        let keys = |key: &BlendNumber| *key == MARGIN_KEY;
-        let values = |value: &u32| *value == MARGIN_VALUE;
-        self.heads[0..MARGIN].iter().all(heads)
-            && self.heads[MARGIN + count..].iter().all(heads)
-            && self.keys[0..MARGIN].iter().all(keys)
-            && self.keys[MARGIN + cells..].iter().all(keys)
-            && self.values[0..MARGIN].iter().all(values)
-            && self.values[MARGIN + cells..].iter().all(values)
     }
 }

@@ -1,8 +1,8 @@
 //! Tables, places and calls filled at random.
 
 use crate::dice::Dice;
-use books::calls::Call;
 use books::places::Place;
+use calls::calls::Call;
 use node::ends::{Handle, Side};
 use node::head::{Head, NULL};
 use node::nodes::NodeRef;

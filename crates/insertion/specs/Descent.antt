@@ -4,6 +4,9 @@
 --   Settles      an entry put at index i into node m, which is split where it is full
 --   need_at       how many nodes an insertion below a node takes, where its ancestors would take `above` if it were split
 --   Descends     an entry put in under node m: a value replaced, or room made, or refused with nothing changed
+--   above_child  what the ancestors of a child would take, if it were split
+--   Bare         node n is no root of a tree whose nodes are out
+--   Lowered      from node n down to m, where the search came to r: what comes of an insertion under m comes of it under n
 use Rattle.std.specs.Prelude.{◌≡◌, ℕ, suc, ◌+◌, ◌-◌, ◌<◌, ◌≤◌, Bool, cond, List, [], ◌∷◌, length, Some, None, Ok, Err, All, Result, MatchResult, nat_le, nat_lt}
 use Rattle.std.specs.declared.cmp.Ordering.{Ordering}
 use Rattle.std.specs.Ordering.{is_gt}
@@ -46,7 +49,6 @@ Settles {K} {V} T T' S S' h m i e c above r =
 abbrev pub need_at : {E : Type 0} → (E → Bool) → ℕ → Tree E → ℕ → ℕ
 need_at b h t above = run b h t + cond (nat_le (suc h) (run b h t)) above 0
 
--- what the ancestors of a child would take, if it were split
 abbrev pub above_child : ℕ → ℕ → ℕ
 above_child len above = cond (nat_lt len 11) 0 (above + 1)
 
@@ -70,7 +72,7 @@ Descends {K} {V} place T T' S S' h m e above r = (t : Tree (K × V)) → Owns T 
 abbrev pub Bare : {K V : Type 0} → Tables K V → NodeRef → Type 0
 Bare {K} {V} T n = (S : Stock) (t : Tree (K × V)) → Owns T S n.height t → number t ≡ n.node → ⊥
 
--- from node n down to m, where the search came to r; the ancestors of the one would take `above`, and those of the other `higher`
+-- the ancestors of n would take `above`, and those of m `higher`
 pub record Lowered {K V : Type 0} (place : K → Ordering) (T : Tables K V) (n : NodeRef) (above : ℕ) (m : NodeRef) (higher : ℕ) (r : SearchResult) : Type 0 where
   pub low : m.height ≤ n.height
   pub made : ℕ

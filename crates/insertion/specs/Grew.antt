@@ -2,9 +2,8 @@
 --   Inserted T' h g     the tables hold what grew: one tree, or two
 --   answer g            what the code answers: the entry fitted in, or what rises, with the number of the new right tree
 --   Grew                the tables hold what grew out of the part f, the supply has given what it took, and all else is as it was
---   Unchanged           tables and supply are as they were
 --   seated, coming      the children of a node while what came of one of them is put in
-use Rattle.std.specs.Prelude.{◌≡◌, ℕ, ◌+◌, ◌-◌, List, [], ◌∷◌, length, Ok, Result}
+use Rattle.std.specs.Prelude.{◌≡◌, ℕ, ◌+◌, ◌-◌, List, [], ◌∷◌, Ok, Result}
 use Rattle.supply.specs.declared.faults.Fault.{Fault}
 use Rattle.supply.specs.Stocks.{Stock}
 use Rattle.node.specs.Shape.{Tree, number, total}

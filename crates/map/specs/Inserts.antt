@@ -1,6 +1,7 @@
 -- What it does to the tables to put an entry into a node of height h: with room, or by splitting a full one.
 --   Edges h c cs    the edges that come with an entry: none in a leaf, one to c above
 --   InsertsIn       node m has room: the entry e goes to index i, its edges behind edge i
+--   InsertsLeft, InsertsRight   the full node m is split at 6 into itself and node n, and the entry e goes left or right of the entry between
 --   Replaces        the value at index i of node m is replaced, and the old one answered
 use Rattle.std.specs.Prelude.{◌≡◌, ℕ, ◌+◌, ◌<◌, List, [], ◌∷◌, ◌++◌, length, Ok, Result, ◌≢◌}
 use Rattle.supply.specs.declared.faults.Fault.{Fault}
@@ -17,8 +18,7 @@ InsertsIn {K} {V} T T' h m i e c r =
     → (h ≡ 0 → length ls ≡ 0) → (0 < h → length ls ≡ length fs) → Edges h c cs → length (es ++ fs) < 11 → Children T (cs ++ ls)
     → (r ≡ Ok tt) × Node T' m (es ++ e ∷ fs) (ks ++ (cs ++ ls)) × Linked T' m (length ks) (cs ++ ls) × Changed T T' (m ∷ []) (cs ++ ls)
 
--- The full node m is split at 6 into itself and node n, and the entry e goes left of the entry x between the halves: as' and bs are the entries
--- before and behind it there, fs those that go right.
+-- x comes to stand between the halves: as' and bs are the entries before and behind e in the left one, and fs those of the right one
 unfoldable pub InsertsLeft : {K V : Type 0} → Tables K V → Tables K V → ℕ → ℕ → ℕ → (K × V) → ℕ → ℕ → Result (K × V) Fault → Type 0
 InsertsLeft {K} {V} T T' h m i e c n r =
     (as' bs : List (K × V)) (x : K × V) (fs : List (K × V)) (ks ls ms cs : List ℕ) → Sized T → Node T m ((as' ++ bs) ++ x ∷ fs) ((ks ++ ls) ++ ms)
@@ -27,7 +27,7 @@ InsertsLeft {K} {V} T T' h m i e c n r =
     → (r ≡ Ok x) × Node T' m (as' ++ e ∷ bs) (ks ++ (cs ++ ls)) × Node T' n fs ms × Linked T' m (length ks) (cs ++ ls) × Linked T' n 0 ms
     × Changed T T' (n ∷ m ∷ []) (ms ++ (cs ++ ls))
 
--- The same, with the entry going right of x.
+-- as' and bs are the entries before and behind e in the right one
 unfoldable pub InsertsRight : {K V : Type 0} → Tables K V → Tables K V → ℕ → ℕ → ℕ → (K × V) → ℕ → ℕ → Result (K × V) Fault → Type 0
 InsertsRight {K} {V} T T' h m i e c n r =
     (es : List (K × V)) (x : K × V) (as' bs : List (K × V)) (ks ms ls cs : List ℕ) → Sized T → Node T m (es ++ x ∷ (as' ++ bs)) (ks ++ (ms ++ ls))

@@ -5,6 +5,11 @@
 --   looks place h t    the comparisons made, the sum over the nodes that are visited
 --   Sought place l r   r is an entry of the list l whose key is the same as the query, or there is none in l
 --   Seeks              in tables that hold a tree, the value and the count are those of the rule
+--   SearchedIn         the search in node m came to this result, with so many comparisons
+--   InOrder            entries in the strict order of their keys
+--   LookupFinds        of a formed tree in order, the rule finds an entry of the tree's list whose key is the same as the query, or there is none
+--   LookupAlone        and where the query stands at one place, there is no other
+--   LookupBound        the comparisons are at most eleven for each level
 use Rattle.std.specs.Prelude.{◌≡◌, ℕ, zero, suc, ◌+◌, ◌*◌, ◌<◌, ◌≤◌, true, cond, List, [], ◌∷◌, ◌++◌, Some, None, Ok, All, Contains, Option, Result, MatchOption, ◌≢◌}
 use Rattle.std.specs.declared.cmp.Ordering.TheVariants.{Equal}
 use Rattle.std.specs.declared.cmp.Ordering.{Ordering}
@@ -41,7 +46,6 @@ value_of (Some e) = Some (second e)
 abbrev pub keys_at : {K V : Type 0} → Tables K V → ℕ → List K
 keys_at T m = span T.keys (11 * m) (head_at T m).len
 
--- the search in node m came to this result, with so many comparisons
 pub record SearchedIn {K V : Type 0} (place : K → Ordering) (T : Tables K V) (m : ℕ) (r : SearchResult) (made : ℕ) : Type 0 where
   pub lies : Lies T m (head_at T m).len
   pub result : searched place (keys_at T m) ≡ r
@@ -54,26 +58,22 @@ unfoldable pub Seeks : {K V : Type 0} → (K → Ordering) → Tables K V → �
 Seeks {K} {V} place T h m r =
     (t : Tree (K × V)) → Sized T → Holds T h t → number t ≡ m → r ≡ Ok (value_of (seek (λ e. place (first e)) h t), looks (λ e. place (first e)) h t)
 
--- entries in the strict order of their keys
 abbrev pub InOrder : {K V : Type 0} → (K → K → Ordering) → List (K × V) → Type 0
 InOrder compares l = Sorted (λ x y. is_lt (compares (first x) (first y))) l
 
 abbrev pub Sought : {E : Type 0} → (E → Ordering) → List E → Option E → Type 0
 Sought place l r = MatchOption r (All (λ e. place e ≢ Equal) l) (λ e. Contains l e × (place e ≡ Equal))
 
--- of a formed tree in order, the rule finds an entry of the tree's list whose key is the same as the query, or there is none
 abbrev pub LookupFinds : Type 0 → Type 0 → Type 0 → Type 0
 LookupFinds K V Q =
     (compares : K → K → Ordering) (places : Q → K → Ordering) (q : Q) (h : ℕ) (t : Tree (K × V)) → Placed compares places → Formed h t → InOrder compares (flat h t)
     → Sought (λ e. places q (first e)) (flat h t) (seek (λ e. places q (first e)) h t)
 
--- and where the query stands at one place, there is no other
 abbrev pub LookupAlone : Type 0 → Type 0 → Type 0 → Type 0
 LookupAlone K V Q =
     (compares : K → K → Ordering) (places : Q → K → Ordering) (q : Q) → Ordered compares → Pointed compares places
     → (xs : List (K × V)) (e : K × V) (ys : List (K × V)) → InOrder compares (xs ++ e ∷ ys) → places q (first e) ≡ Equal
     → All (λ x. places q (first x) ≢ Equal) xs × All (λ y. places q (first y) ≢ Equal) ys
 
--- the comparisons are at most eleven for each level
 abbrev pub LookupBound : Type 0 → Type 0
 LookupBound E = (place : E → Ordering) (h : ℕ) (t : Tree E) → Formed h t → looks place h t ≤ 11 * (h + 1)

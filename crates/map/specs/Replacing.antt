@@ -1,6 +1,9 @@
 -- Replacement as a rule on trees: where the search finds the query's key, the entry there is changed, and nothing else.
 --   alter f i es          the entry at index i changed by f
 --   amend f place h t     the entry whose key is the same as the query changed by f: in the node where the search finds one, or else below
+--   Altered               one entry of a list is changed where it stands, and the list is otherwise the same
+--   AmendList             so is the tree's list, at the entry that the lookup finds
+--   AmendFormed           a formed tree stays formed, of the same nodes
 use Rattle.std.specs.Prelude.{◌≡◌, ℕ, zero, suc, cond, List, [], ◌∷◌, ◌++◌, Some}
 use Rattle.std.specs.declared.cmp.Ordering.{Ordering}
 use Rattle.order.specs.Found.{first_not_below, found_at}
@@ -20,7 +23,6 @@ amend f place (suc h) t =
     (mk (number t) (alter f (first_not_below place (row t)) (row t)) (kids t))
     (mk (number t) (row t) (swap (first_not_below place (row t)) (amend f place h (kid t (first_not_below place (row t))) ∷ []) (kids t)))
 
--- The entry that the lookup finds is changed where it stands, and the list is otherwise the same.
 pub record Altered {E : Type 0} (f : E → E) (e : E) (l l' : List E) : Type 0 where
   pub ante : List E
   pub post : List E
@@ -32,7 +34,6 @@ AmendList E =
     (f : E → E) (place : E → Ordering) (h : ℕ) (t : Tree E) → Formed h t → (e : E) → seek place h t ≡ Some e
     → Altered f e (flat h t) (flat h (amend f place h t))
 
--- A formed tree stays formed, of the same nodes.
 abbrev pub AmendFormed : Type 0 → Type 0
 AmendFormed E =
     (f : E → E) (place : E → Ordering) (h : ℕ) (t : Tree E) → Formed h t

@@ -1,6 +1,7 @@
 //! Insertion into one node, which is split where it is full, and replacement of a value.
 
 ghost use Rattle.std.specs.Prelude.{◌≡◌};
+ghost use Rattle.node.specs.Breaches.{Breached};
 ghost use Rattle.node.specs.Store.{tables};
 ghost use Rattle.map.specs.Inserts.{InsertsIn, InsertsLeft, InsertsRight, Replaces};
 
@@ -9,7 +10,8 @@ use node::nodes::{ForceResult, NodeRef};
 use node::tables::Tables;
 use supply::Fault;
 
-/// Puts an entry at `idx` into a node that has room, and above the leaves an edge behind it.
+/// Puts an entry at `idx` into a node that has room, and above the leaves an edge behind it. Refuses with `Breach`; what the tables hold
+/// afterwards is free then.
 #[inline(always)]
 pub fn insert_fit<K: Copy, V: Copy>(
     heads: &mut [Head],
@@ -21,7 +23,8 @@ pub fn insert_fit<K: Copy, V: Copy>(
     val: V,
     edge: u16,
 ) -> Result<(), Fault>
-    ensures { InsertsIn (tables heads.old keys.old values.old) (tables heads.new keys.new values.new) node.height node.node idx (key, val) edge result }
+    ensures fault { Breached result }
+    ensures inserts { InsertsIn (tables heads.old keys.old values.old) (tables heads.new keys.new values.new) node.height node.node idx (key, val) edge result }
 {
     match node.force() {
         ForceResult::Leaf(leaf) => leaf.insert_fit(heads, keys, values, idx, key, val),
@@ -30,7 +33,7 @@ pub fn insert_fit<K: Copy, V: Copy>(
 }
 
 /// Splits a full node at `B` into itself and the unused node `right`, and puts the entry into the half where it belongs.
-/// Answers the entry between the halves.
+/// Answers the entry between the halves. Refuses with `Breach`; what the tables hold afterwards is free then.
 pub fn insert_full<K: Copy, V: Copy>(
     heads: &mut [Head],
     keys: &mut [K],
@@ -42,6 +45,7 @@ pub fn insert_full<K: Copy, V: Copy>(
     edge: u16,
     right: u16,
 ) -> Result<(K, V), Fault>
+    ensures fault { Breached result }
     ensures left { InsertsLeft (tables heads.old keys.old values.old) (tables heads.new keys.new values.new) node.height node.node idx (key, val) edge right result }
     ensures right { InsertsRight (tables heads.old keys.old values.old) (tables heads.new keys.new values.new) node.height node.node idx (key, val) edge right result }
 {
@@ -58,7 +62,7 @@ pub fn insert_full<K: Copy, V: Copy>(
     Ok(entry)
 }
 
-/// Replaces the value beside the key at `idx`; answers the old one.
+/// Replaces the value beside the key at `idx`; answers the old one. Refuses with `Breach`.
 pub fn replace_value<K, V: Copy>(
     heads: &[Head],
     keys: &[K],
@@ -67,7 +71,8 @@ pub fn replace_value<K, V: Copy>(
     idx: usize,
     val: V,
 ) -> Result<V, Fault>
-    ensures { Replaces (tables heads.now keys.now values.old) (tables heads.now keys.now values.new) node idx val result }
+    ensures fault { Breached result }
+    ensures replaces { Replaces (tables heads.now keys.now values.old) (tables heads.now keys.now values.new) node idx val result }
 {
     let shown = Tables {
         heads,

@@ -1,6 +1,8 @@
 -- The way to the first or the last leaf. Assumes nothing.
 use Rattle.std.proofs.Common.{◌≡◌, ℕ, zero, suc, ◌+◌, ◌-◌, ◌<◌, ◌≤◌, List, [], length, get_or, Ok, Err, Result, sym, refl, ap, ◌∙◌, subst, arith, MatchResult}
 use Rattle.std.proofs.lemmas.List.{get_or-take, get_or-map}
+use Rattle.supply.specs.declared.faults.Fault.{Fault}
+use Rattle.supply.specs.declared.faults.Fault.TheVariants.{Breach}
 use Rattle.node.specs.declared.head.Head.{Head}
 use Rattle.node.specs.declared.ends.Handle.{Handle}
 use Rattle.node.specs.declared.ends.Side.{Side}
@@ -26,8 +28,8 @@ module _ (s : Side) (H : List Head) where
   chain_stands (suc h) m w = w.0
 
   -- what a descent from m has to answer
-  abbrev pub Descent : ℕ → ℕ → {F : Type 0} → Result Handle F → Type 0
-  Descent h m r = MatchResult r (λ e. Chain s H h m × (e ≡ end_edge s H h m)) (λ _. Chain s H h m → ⊥)
+  abbrev pub Descent : ℕ → ℕ → Result Handle Fault → Type 0
+  Descent h m r = MatchResult r (λ e. Chain s H h m × (e ≡ end_edge s H h m)) (λ f. (f ≡ Breach) × (Chain s H h m → ⊥))
 
   -- at a leaf, and one level above the answer
   arrived : (m : ℕ) → Stands H m → Chain s H zero m × (end_edge s H zero m ≡ record { node = m; idx = end_index s (head_in H m).len })
@@ -40,12 +42,12 @@ module _ (s : Side) (H : List Head) where
       subst (λ k. Chain s H k m × (◌≡◌ {A = Handle} (record { node = m; idx = i }) (end_edge s H k m))) (sym z)
       ((arrived m w).0, ap (λ j. record { node = m; idx = j }) (q ∙ ap (end_index s) p) ∙ sym (arrived m w).1)
 
-  risen : (h m : ℕ) {F : Type 0} (r : Result Handle F) → Stands H m → Descent h (end_below s H m) r → Descent (suc h) m r
+  risen : (h m : ℕ) (r : Result Handle Fault) → Stands H m → Descent h (end_below s H m) r → Descent (suc h) m r
   unfolding Chain end_leaf
   risen h m (Ok e) w d = ((w, d.0), d.1)
-  risen h m (Err y) w d = λ c. d c.1
+  risen h m (Err y) w d = (d.0, λ c. d.1 c.1)
 
-  pub descent_more : (h m n i x : ℕ) {F : Type 0} (r : Result Handle F) → 0 < h → Stands H m → n ≡ (head_in H m).len → i ≡ end_index s n → x ≡ edge H m i → Descent (h - 1) x r → Descent h m r
+  pub descent_more : (h m n i x : ℕ) (r : Result Handle Fault) → 0 < h → Stands H m → n ≡ (head_in H m).len → i ≡ end_index s n → x ≡ edge H m i → Descent (h - 1) x r → Descent h m r
   descent_more h m n i x r l w p q e d =
       subst (λ k. Descent k m r) (sym (height_suc h l))
       (risen (h - 1) m r w (subst (λ y. Descent (h - 1) y r) (e ∙ ap (edge H m) (q ∙ ap (end_index s) p)) d))

@@ -17,3 +17,4 @@ pub mod Recounts
 pub mod Descents
 pub mod Sorting
 pub mod Forced
+pub mod Breaking

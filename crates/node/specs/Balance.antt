@@ -7,6 +7,7 @@
 --   Beside T T' S f      every node that was out and is not of the part f is as it was, and every barred node
 --   Spared T T' S        every barred node is as it was
 --   Unchanged            tables and supply are as they were
+--   FrameBeside          a tree that stands beside the part is still held
 -- Where x was out and is not of the part, or is barred, f x is 0 and guard S x is 1, so that f x < guard S x says just this.
 use Rattle.std.specs.Prelude.{◌≡◌, ℕ, ◌+◌, ◌<◌, ◌≤◌, true, cond, length}
 use Rattle.supply.specs.Stocks.{Stock, size_of, is_out, is_barred, outs_of}
@@ -54,7 +55,6 @@ pub record Unchanged {K V : Type 0} (T T' : Tables K V) (S S' : Stock) : Type 0 
   pub tables_same : T' ≡ T
   pub stock_same : S' ≡ S
 
--- a tree that stands beside the part is still held
 abbrev pub FrameBeside : Type 0 → Type 0 → Type 0
 FrameBeside K V =
     (T T' : Tables K V) (S : Stock) (f : ℕ → ℕ) (h : ℕ) (t : Tree (K × V)) → Beside T T' S f

@@ -1,10 +1,14 @@
--- Worked cases of the rules on nodes, over numbers as entries: each line of the first list computes to that line of the second.
+-- Worked cases of the rules on nodes, over numbers as entries.
+--   count n a d     n numbers from a on, in steps of d
+--   leaf es         a leaf with these entries
+--   rows            what an operation makes, by the entries of each node: of one, or of two with the entry between them
+--   two a b         leaves of a and b entries, with one number left out between them
+--   WorkedCases     each line of the first list computes to that line of the second
 use Rattle.std.specs.Prelude.{◌≡◌, ℕ, zero, suc, ◌+◌, List, [], ◌∷◌}
 use Rattle.node.specs.declared.ends.Side.TheVariants.{First, Last}
 use Rattle.node.specs.Shape.{Tree, row, mk}
 use Rattle.node.specs.Rules.{Grown, whole, parted, settle, joint}
 
--- n numbers from a on, in steps of d
 abbrev pub count : ℕ → ℕ → ℕ → List ℕ
 count zero a d = []
 count (suc n) a d = a ∷ count n (a + d) d
@@ -12,12 +16,10 @@ count (suc n) a d = a ∷ count n (a + d) d
 abbrev pub leaf : List ℕ → Tree ℕ
 leaf es = mk 0 es []
 
--- the rows of what an operation makes: of the one node, or of the two with the entry between them
 abbrev pub rows : Grown ℕ → List (List ℕ)
 rows (whole t) = row t ∷ []
 rows (parted l x r) = row l ∷ (x ∷ []) ∷ row r ∷ []
 
--- leaves of a and b entries with one between them
 abbrev pub two : ℕ → ℕ → Tree ℕ × Tree ℕ
 two a b = (leaf (count a 1 1), leaf (count b (a + 2) 1))
 

@@ -1,6 +1,7 @@
 pub mod Shape
 pub mod Cells
 pub mod Store
+pub mod Breaches
 pub mod Rows
 pub mod Links
 pub mod Operations

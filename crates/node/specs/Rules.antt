@@ -26,8 +26,8 @@ abbrev pub swap : {E : Type 0} → ℕ → List (Tree E) → List (Tree E) → L
 swap i [] ks = ks
 swap i (l ∷ new) ks = take i ks ++ l ∷ (new ++ drop (suc i) ks)
 
--- A full node gives up its entry at index 6: six stay left, four go right to the node `fresh`. The new entry goes left up to index 6, and
--- right at i - 7 above it.
+-- A full node gives up its seventh entry. The six before it stay, and the four behind it go to the node `fresh`, on the right. An entry
+-- whose index is up to 6 goes to the left one, any other to the right one, at i - 7.
 abbrev pub settle : {E : Type 0} → ℕ → ℕ → ℕ → List E → List (Tree E) → E → List (Tree E) → Grown E
 settle fresh m i es ks x new =
     cond (nat_lt (length es) 11)

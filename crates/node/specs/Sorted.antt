@@ -3,6 +3,8 @@
 --   Downward le b  what stands in order before an entry below the query is below it too
 --   Rising b l     no entry below the query stands behind one that is not
 --   index b l      the index of the first entry that is not below the query, else the length
+--   SortedRises    sorted entries rise
+--   IndexParts     the index parts a rising list: all before it are below the query, and none from it on
 use Rattle.std.specs.Prelude.{◌≡◌, ℕ, suc, Bool, true, false, cond, List, [], ◌∷◌, take, drop, All}
 
 abbrev pub Sorted : {E : Type 0} → (E → E → Bool) → List E → Type 0
@@ -20,10 +22,8 @@ abbrev pub index : {E : Type 0} → (E → Bool) → List E → ℕ
 index b [] = 0
 index b (x ∷ xs) = cond (b x) (suc (index b xs)) 0
 
--- sorted entries rise
 abbrev pub SortedRises : Type 0 → Type 0
 SortedRises E = (le : E → E → Bool) (b : E → Bool) → Downward le b → (l : List E) → Sorted le l → Rising b l
 
--- the index parts a rising list: all before it are below the query, and none from it on
 abbrev pub IndexParts : Type 0 → Type 0
 IndexParts E = (b : E → Bool) (l : List E) → Rising b l → All (λ x. b x ≡ true) (take (index b l) l) × All (λ x. b x ≡ false) (drop (index b l) l)

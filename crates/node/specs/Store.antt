@@ -1,5 +1,5 @@
 -- What the three tables of a caller hold.
---   Tables            heads, keys and values; key i and value i of node m stand at 11 · m + i
+--   Tables            heads, keys and values; the rows of node m begin at cell 11 · m, so that its i-th key and value are i cells on
 --   Sized             at most 4096 heads, and eleven keys and eleven values for each
 --   Node T m es ks    node m holds the entries es and the edges ks
 --   Link T p i c      node c names p as its parent and i as its place among p's edges

@@ -1,6 +1,7 @@
 //! A parent and two neighbours among its children: merged, or evened out through the entry between them.
 
 ghost use Rattle.std.specs.Prelude.{◌≡◌, ℕ, ◌+◌, ◌-◌, ◌*◌, ◌<◌, ◌≤◌, List, length, IfOk, Ok, MatchResult};
+ghost use Rattle.node.specs.Breaches.{Breached};
 ghost use Rattle.node.specs.Store.{tables, Sized, Node};
 ghost use Rattle.node.specs.Operations.{Pairs, Lies, CanMerge, Merges, StealsLeft, StealsRight};
 ghost use Rattle.node.specs.Neighbours.{Paired, PairedOf, Steals, JoinsChildren};
@@ -19,7 +20,7 @@ use supply::Fault;
 
 /// Refuses where `count` entries, at least one, cannot go from a node with `source` entries to one with `dest`.
 fn check_count(count: usize, source: usize, dest: usize) -> Result<(), Fault>
-    ensures { MatchResult result (λ _. (0 < count) × (count ≤ source) × (count + dest ≤ 11)) (λ _. (0 < count → count ≤ source → count + dest ≤ 11 → ⊥)) }
+    ensures { MatchResult result (λ _. (0 < count) × (count ≤ source) × (count + dest ≤ 11)) (λ f. (f ≡ Fault.Breach) × (0 < count → count ≤ source → count + dest ≤ 11 → ⊥)) }
 {
     if count == 0 || count > source {
         return Err(Fault::Breach);
@@ -43,6 +44,7 @@ impl Internal {
 
     /// The two children beside the entry at `idx`, each a node of its own.
     fn pair<K, V>(self, tables: &Tables<'_, K, V>, idx: usize) -> Result<Pair, Fault>
+        ensures fault { Breached result }
         ensures lies { IfOk result (λ q. Paired tables.now self.node idx q) }
         ensures held { PairedOf tables.now self.node idx result }
     {
@@ -69,15 +71,18 @@ impl Internal {
         })
     }
 
-    /// Whether both children beside the entry at `idx`, and that entry, fit into one node.
+    /// Whether both children beside the entry at `idx`, and that entry, fit into one node. Refuses with `Breach` where the tables hold no such
+    /// parent and children.
     pub fn can_merge<K, V>(self, tables: &Tables<'_, K, V>, idx: usize) -> Result<bool, Fault>
-        ensures { CanMerge tables.now self.node idx result }
+        ensures fault { Breached result }
+        ensures fits { CanMerge tables.now self.node idx result }
     {
         let pair = self.pair(tables, idx)?;
         Ok(pair.left_len + pair.right_len + 1 <= CAPACITY)
     }
 
     /// Merges the children beside the entry at `idx`, and that entry, into the left one. Answers both: the right one is left over.
+    /// Refuses with `Breach`; what the tables hold afterwards is free then.
     pub fn merge<K: Copy, V: Copy>(
         self,
         heads: &mut [Head],
@@ -85,7 +90,8 @@ impl Internal {
         values: &mut [V],
         idx: usize,
     ) -> Result<(u16, u16), Fault>
-        ensures { Merges (tables heads.old keys.old values.old) (tables heads.new keys.new values.new) self.height self.node idx result }
+        ensures fault { Breached result }
+        ensures merges { Merges (tables heads.old keys.old values.old) (tables heads.new keys.new values.new) self.height self.node idx result }
     {
         let shown = Tables {
             heads,
@@ -110,7 +116,8 @@ impl Internal {
         requires lies { Paired (tables heads.old keys.old values.old) self.node pair.idx pair }
         requires held { PairedOf (tables heads.old keys.old values.old) self.node pair.idx (Ok pair) }
         requires fits { pair.left_len + pair.right_len + 1 ≤ 11 }
-        ensures { Merges (tables heads.old keys.old values.old) (tables heads.new keys.new values.new) self.height self.node pair.idx result }
+        ensures fault { Breached result }
+        ensures merges { Merges (tables heads.old keys.old values.old) (tables heads.new keys.new values.new) self.height self.node pair.idx result }
     {
         pair.merge_row(keys);
         pair.merge_row(values);
@@ -138,6 +145,7 @@ impl Internal {
     }
 
     /// Moves `count` entries from the left child beside the entry at `idx` to the right one, through that entry.
+    /// Refuses with `Breach`; what the tables hold afterwards is free then.
     pub fn bulk_steal_left<K: Copy, V: Copy>(
         self,
         heads: &mut [Head],
@@ -146,7 +154,8 @@ impl Internal {
         idx: usize,
         count: usize,
     ) -> Result<(), Fault>
-        ensures { StealsLeft (tables heads.old keys.old values.old) (tables heads.new keys.new values.new) self.height self.node idx count result }
+        ensures fault { Breached result }
+        ensures steals { StealsLeft (tables heads.old keys.old values.old) (tables heads.new keys.new values.new) self.height self.node idx count result }
     {
         let shown = Tables {
             heads,
@@ -172,7 +181,8 @@ impl Internal {
         requires some { 0 < count }
         requires enough { count ≤ pair.left_len }
         requires fits { count + pair.right_len ≤ 11 }
-        ensures { StealsLeft (tables heads.old keys.old values.old) (tables heads.new keys.new values.new) self.height self.node pair.idx count result }
+        ensures fault { Breached result }
+        ensures steals { StealsLeft (tables heads.old keys.old values.old) (tables heads.new keys.new values.new) self.height self.node pair.idx count result }
     {
         pair.steal_left_row(keys, count - 1);
         pair.steal_left_row(values, count - 1);
@@ -191,6 +201,7 @@ impl Internal {
     }
 
     /// Moves `count` entries from the right child beside the entry at `idx` to the left one, through that entry.
+    /// Refuses with `Breach`; what the tables hold afterwards is free then.
     pub fn bulk_steal_right<K: Copy, V: Copy>(
         self,
         heads: &mut [Head],
@@ -199,7 +210,8 @@ impl Internal {
         idx: usize,
         count: usize,
     ) -> Result<(), Fault>
-        ensures { StealsRight (tables heads.old keys.old values.old) (tables heads.new keys.new values.new) self.height self.node idx count result }
+        ensures fault { Breached result }
+        ensures steals { StealsRight (tables heads.old keys.old values.old) (tables heads.new keys.new values.new) self.height self.node idx count result }
     {
         let shown = Tables {
             heads,
@@ -225,7 +237,8 @@ impl Internal {
         requires some { 0 < count }
         requires enough { count ≤ pair.right_len }
         requires fits { count + pair.left_len ≤ 11 }
-        ensures { StealsRight (tables heads.old keys.old values.old) (tables heads.new keys.new values.new) self.height self.node pair.idx count result }
+        ensures fault { Breached result }
+        ensures steals { StealsRight (tables heads.old keys.old values.old) (tables heads.new keys.new values.new) self.height self.node pair.idx count result }
     {
         pair.steal_right_row(keys, count - 1);
         pair.steal_right_row(values, count - 1);
@@ -262,7 +275,8 @@ impl Internal {
         requires lies { Paired (tables heads.old keys.old values.old) self.node pair.idx pair }
         requires held { PairedOf (tables heads.old keys.old values.old) self.node pair.idx (Ok pair) }
         requires chosen { choice side pair.left_len pair.right_len ≡ Move count }
-        ensures { Steals side (tables heads.old keys.old values.old) (tables heads.new keys.new values.new) self.height self.node pair.idx count result }
+        ensures fault { Breached result }
+        ensures steals { Steals side (tables heads.old keys.old values.old) (tables heads.new keys.new values.new) self.height self.node pair.idx count result }
     {
         match side {
             Side::First => self.steal_right_pair(heads, keys, values, pair, count),
@@ -282,7 +296,8 @@ impl Internal {
         side: Side,
         idx: usize,
     ) -> Result<(u16, Option<u16>), Fault>
-        ensures { JoinsChildren side (tables heads.old keys.old values.old) (tables heads.new keys.new values.new) self.height self.node idx result }
+        ensures fault { Breached result }
+        ensures joins { JoinsChildren side (tables heads.old keys.old values.old) (tables heads.new keys.new values.new) self.height self.node idx result }
     {
         let shown = Tables {
             heads,

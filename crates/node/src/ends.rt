@@ -1,6 +1,7 @@
 //! The first and the last leaf of a tree.
 
 ghost use Rattle.std.specs.Prelude.{◌≡◌, ◌≤◌, IfOk, Ok, MatchResult};
+ghost use Rattle.node.specs.Breaches.{Breached};
 ghost use Rattle.node.specs.Ends.{end_index, Chain, end_edge};
 
 use crate::count::{MAX_HEIGHT, len_at};
@@ -37,7 +38,7 @@ impl Side {
 
 /// The edge at one end of the leaves under `node`, at any height.
 fn descend(heads: &[Head], side: Side, node: NodeRef) -> Result<Handle, Fault>
-    ensures { MatchResult result (λ e. Chain side heads.now node.height node.node × (e ≡ end_edge side heads.now node.height node.node)) (λ _. (Chain side heads.now node.height node.node → ⊥)) }
+    ensures { MatchResult result (λ e. Chain side heads.now node.height node.node × (e ≡ end_edge side heads.now node.height node.node)) (λ f. (f ≡ Fault.Breach) × (Chain side heads.now node.height node.node → ⊥)) }
 {
     let len = len_at(heads, node.node)?;
     let idx = side.index(len);
@@ -54,8 +55,9 @@ fn descend(heads: &[Head], side: Side, node: NodeRef) -> Result<Handle, Fault>
 }
 
 /// The edge at one end of the leaves under `node`: the first edge of the first leaf, or the last edge of the last.
-/// There is an answer for each tree of at most `MAX_HEIGHT` levels above its leaves.
+/// There is an answer for each tree of at most `MAX_HEIGHT` levels above its leaves. Else it refuses with `Breach`.
 pub fn leaf_edge(heads: &[Head], side: Side, node: NodeRef) -> Result<Handle, Fault>
+    ensures fault { Breached result }
     ensures leads { IfOk result (λ e. (node.height ≤ 5) × Chain side heads.now node.height node.node × (e ≡ end_edge side heads.now node.height node.node)) }
     ensures whole { node.height ≤ 5 → Chain side heads.now node.height node.node → result ≡ Ok (end_edge side heads.now node.height node.node) }
 {

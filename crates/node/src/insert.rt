@@ -1,6 +1,7 @@
 //! Entries put into a node that has room.
 
 ghost use Rattle.std.specs.Prelude.{◌≡◌, ◌+◌, ◌-◌, ◌*◌, ◌<◌, ◌≤◌, ◌∷◌, length, MatchResult};
+ghost use Rattle.node.specs.Breaches.{Breached};
 ghost use Rattle.node.specs.Cells.{span, Put};
 ghost use Rattle.node.specs.Store.{tables, Sized, head_at};
 ghost use Rattle.node.specs.Operations.{Lies, InsertsFit, InsertsEdge};
@@ -16,7 +17,7 @@ use supply::Fault;
 /// How many entries `node` has, where it has room for one at `idx`.
 #[inline(always)]
 fn room_in<K, V>(tables: &Tables<'_, K, V>, node: u16, idx: usize) -> Result<usize, Fault>
-    ensures { MatchResult result (λ n. Lies tables.now node n × (n < 11) × (idx ≤ n)) (λ _. (Sized tables.now → node < length tables.now.heads → (head_at tables.now node).len < 11 → idx ≤ (head_at tables.now node).len → ⊥)) }
+    ensures { MatchResult result (λ n. Lies tables.now node n × (n < 11) × (idx ≤ n)) (λ f. (f ≡ Fault.Breach) × (Sized tables.now → node < length tables.now.heads → (head_at tables.now node).len < 11 → idx ≤ (head_at tables.now node).len → ⊥)) }
 {
     let len = tables.len_in(node)?;
     if len >= CAPACITY || idx > len {
@@ -26,7 +27,7 @@ fn room_in<K, V>(tables: &Tables<'_, K, V>, node: u16, idx: usize) -> Result<usi
 }
 
 impl Leaf {
-    /// Puts an entry at `idx` into a node that has room; its edges stay.
+    /// Puts an entry at `idx` into a node that has room; its edges stay. Refuses with `Breach`.
     #[inline(always)]
     pub fn insert_fit<K: Copy, V: Copy>(
         self,
@@ -37,7 +38,8 @@ impl Leaf {
         key: K,
         val: V,
     ) -> Result<(), Fault>
-        ensures { InsertsFit (tables heads.old keys.old values.old) (tables heads.new keys.new values.new) self.node idx (key, val) result }
+        ensures fault { Breached result }
+        ensures inserts { InsertsFit (tables heads.old keys.old values.old) (tables heads.new keys.new values.new) self.node idx (key, val) result }
     {
         let shown = Tables {
             heads,
@@ -54,7 +56,8 @@ impl Leaf {
 }
 
 impl Internal {
-    /// Puts an entry at `idx` into a node that has room, and an edge behind it.
+    /// Puts an entry at `idx` into a node that has room, and an edge behind it. Refuses with `Breach`; what the tables hold afterwards is free
+    /// then.
     pub fn insert_fit<K: Copy, V: Copy>(
         self,
         heads: &mut [Head],
@@ -65,7 +68,8 @@ impl Internal {
         val: V,
         edge: u16,
     ) -> Result<(), Fault>
-        ensures { InsertsEdge (tables heads.old keys.old values.old) (tables heads.new keys.new values.new) self.node idx (key, val) edge result }
+        ensures fault { Breached result }
+        ensures inserts { InsertsEdge (tables heads.old keys.old values.old) (tables heads.new keys.new values.new) self.node idx (key, val) edge result }
     {
         let shown = Tables {
             heads,

@@ -9,9 +9,9 @@ use crate::head::{Head, NULL};
 use crate::nodes::{Internal, NodeRef};
 use supply::Fault;
 
-/// Makes `node` a root leaf without entries.
+/// Makes `node` a root leaf without entries. Refuses with `Breach` where it is no node of the table.
 pub fn new_leaf(heads: &mut [Head], node: u16) -> Result<(), Fault>
-    ensures { MatchResult result (λ _. (node < length heads.old) × (heads.new ≡ new_leaf heads.old node)) (λ _. length heads.old ≤ node) }
+    ensures { MatchResult result (λ _. (node < length heads.old) × (heads.new ≡ new_leaf heads.old node)) (λ f. (f ≡ Fault.Breach) × (length heads.old ≤ node)) }
 {
     let at = node as usize;
     if at >= heads.len() {
@@ -26,9 +26,9 @@ pub fn new_leaf(heads: &mut [Head], node: u16) -> Result<(), Fault>
     Ok(())
 }
 
-/// Makes `node` a root without entries, whose only child is the root `child`.
+/// Makes `node` a root without entries, whose only child is the root `child`. Refuses with `Breach` where they are not two nodes of the table.
 pub fn push_level(heads: &mut [Head], child: u16, node: u16) -> Result<(), Fault>
-    ensures { MatchResult result (λ _. (node < length heads.old) × (child < length heads.old) × (node ≢ child) × (0 < length (head_in heads.old node).edges) × (heads.new ≡ push_level heads.old child node)) (λ _. (node < length heads.old → child < length heads.old → (node ≢ child) → ⊥)) }
+    ensures { MatchResult result (λ _. (node < length heads.old) × (child < length heads.old) × (node ≢ child) × (0 < length (head_in heads.old node).edges) × (heads.new ≡ push_level heads.old child node)) (λ f. (f ≡ Fault.Breach) × (node < length heads.old → child < length heads.old → (node ≢ child) → ⊥)) }
 {
     let m = node as usize;
     let c = child as usize;
@@ -50,9 +50,9 @@ pub fn push_level(heads: &mut [Head], child: u16, node: u16) -> Result<(), Fault
 }
 
 impl Internal {
-    /// Makes the first child of a root the root.
+    /// Makes the first child of a root the root. Refuses with `Breach` where one of them is no node of the table.
     pub fn pop_level(self, heads: &mut [Head]) -> Result<NodeRef, Fault>
-        ensures { MatchResult result (λ n. (n.node ≡ slice_index (head_in heads.old self.node).edges 0) × (n.height ≡ self.height - 1) × (heads.new ≡ pop_level heads.old n.node)) (λ _. (self.node < length heads.old → slice_index (head_in heads.old self.node).edges 0 < length heads.old → ⊥)) }
+        ensures { MatchResult result (λ n. (n.node ≡ slice_index (head_in heads.old self.node).edges 0) × (n.height ≡ self.height - 1) × (heads.new ≡ pop_level heads.old n.node)) (λ f. (f ≡ Fault.Breach) × (self.node < length heads.old → slice_index (head_in heads.old self.node).edges 0 < length heads.old → ⊥)) }
     {
         let m = self.node as usize;
         if m >= heads.len() {

@@ -1,6 +1,7 @@
 //! The back part of a node moved to another.
 
 ghost use Rattle.std.specs.Prelude.{◌≡◌, ◌+◌, ◌-◌, ◌*◌, ◌<◌, ◌≤◌, length, MatchResult, ◌≢◌};
+ghost use Rattle.node.specs.Breaches.{Breached};
 ghost use Rattle.node.specs.Store.{tables, head_at};
 ghost use Rattle.node.specs.Operations.{Lies, MovesTail, Splits, MovesSuffix};
 
@@ -15,7 +16,7 @@ use supply::Fault;
 impl NodeRef {
     /// Refuses where `right` is not another node of the table.
     fn check_beside(self, heads: &[Head], right: u16) -> Result<(), Fault>
-        ensures { MatchResult result (λ _. (right < length heads.now) × (right ≢ self.node)) (λ _. (right < length heads.now → (right ≢ self.node) → ⊥)) }
+        ensures { MatchResult result (λ _. (right < length heads.now) × (right ≢ self.node)) (λ f. (f ≡ Fault.Breach) × (right < length heads.now → (right ≢ self.node) → ⊥)) }
     {
         if right as usize >= heads.len() || right == self.node {
             return Err(Fault::Breach);
@@ -39,7 +40,8 @@ impl NodeRef {
         requires one { skip ≤ 1 }
         requires right { right < length heads.old }
         requires other { right ≢ self.node }
-        ensures { MovesTail (tables heads.old keys.old values.old) (tables heads.new keys.new values.new) self.height self.node keep skip right result }
+        ensures fault { Breached result }
+        ensures moves { MovesTail (tables heads.old keys.old values.old) (tables heads.new keys.new values.new) self.height self.node keep skip right result }
     {
         let m = self.node as usize;
         let n = right as usize;
@@ -58,7 +60,8 @@ impl NodeRef {
         correct_childrens_parent_links(heads, right, first, last)
     }
 
-    /// Gives up the entry at `idx`; what is behind it goes to the unused node `right`.
+    /// Gives up the entry at `idx`; what is behind it goes to the unused node `right`. Refuses with `Breach`; what the tables hold afterwards is
+    /// free then.
     pub fn split<K: Copy, V: Copy>(
         self,
         heads: &mut [Head],
@@ -67,7 +70,8 @@ impl NodeRef {
         idx: usize,
         right: u16,
     ) -> Result<(K, V), Fault>
-        ensures { Splits (tables heads.old keys.old values.old) (tables heads.new keys.new values.new) self.height self.node idx right result }
+        ensures fault { Breached result }
+        ensures splits { Splits (tables heads.old keys.old values.old) (tables heads.new keys.new values.new) self.height self.node idx right result }
     {
         let shown = Tables {
             heads,
@@ -85,7 +89,8 @@ impl NodeRef {
         Ok(entry)
     }
 
-    /// Moves the entries from `idx` on to the empty node `right`, and their edges behind its first edge.
+    /// Moves the entries from `idx` on to the empty node `right`, and their edges behind its first edge. Refuses with `Breach`; what the tables
+    /// hold afterwards is free then.
     pub fn move_suffix<K: Copy, V: Copy>(
         self,
         heads: &mut [Head],
@@ -94,7 +99,8 @@ impl NodeRef {
         idx: usize,
         right: u16,
     ) -> Result<(), Fault>
-        ensures { MovesSuffix (tables heads.old keys.old values.old) (tables heads.new keys.new values.new) self.height self.node idx right result }
+        ensures fault { Breached result }
+        ensures moves { MovesSuffix (tables heads.old keys.old values.old) (tables heads.new keys.new values.new) self.height self.node idx right result }
     {
         let shown = Tables {
             heads,

@@ -28,9 +28,9 @@ impl<K, V> Tables<'_, K, V> {
     ghost use Rattle.std.specs.Prelude.{◌≡◌, MatchResult};
     ghost use Rattle.node.specs.Operations.{Lies, Strange};
 
-    /// How many entries `node` has, where it lies in tables that fit together.
+    /// How many entries `node` has, where it lies in tables that fit together; else `Breach`.
     pub fn len_in(&self, node: u16) -> Result<usize, Fault>
-        ensures { MatchResult result (λ n. Lies self.now node n) (λ _. Strange self.now node) }
+        ensures { MatchResult result (λ n. Lies self.now node n) (λ f. (f ≡ Fault.Breach) × Strange self.now node) }
     {
         let count = self.heads.len();
         let cells = CAPACITY * count;

@@ -4,7 +4,6 @@
 use Rattle.std.proofs.Common.{◌≡◌, ℕ, Ordering, Less, Equal, refl, sym, subst, arith}
 use Rattle.std.specs.Ordering.{nat_cmp, ordering_then}
 use Rattle.std.proofs.lemmas.Bool.Decides.{nat_tests}
-use Rattle.order.specs.Laws.{Pointed}
 use Rattle.order.specs.Wide.{Wide, DaysWorked, day, stamp}
 use Rattle.order.specs.declared.day.Day.{Day}
 use Rattle.order.specs.declared.stamp.BatchStamp.{BatchStamp}

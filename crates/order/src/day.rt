@@ -11,7 +11,7 @@ use crate::stamp::BatchStamp;
 use std::cmp::Ordering;
 use std::fmt;
 
-/// A day. It is the same as every stamp of that day, so it does not stand at one place among stamps.
+/// A day. Every stamp of it compares as the same, and stamps of one day may differ, so it does not stand at one place among stamps.
 #[derive(Clone, Copy, PartialEq, Eq, Debug)]
 pub struct Day {
     pub day: u32,
@@ -43,7 +43,7 @@ impl fmt::Display for Day {
     }
 }
 
-/// A day is the same as every stamp of that day and as no other, so it does not stand at one place. A worked search finds the first stamp of a day.
+/// With a day just the stamps of that day compare as the same, and some two of them differ, so it does not stand at one place. A worked search finds the first stamp of a day.
 pub fn day_stands()
     ensures wide { Wide ⟦<BatchStamp as KeyOrder>⟧.compares ⟦<Day as Placing<BatchStamp>>⟧.places (λ q k. k.day ≡ q.day) }
     ensures worked { DaysWorked ⟦<Day as Placing<BatchStamp>>⟧.places }

@@ -1,4 +1,4 @@
-//! The order of keys, and the placing of queries among them.
+//! How keys are ordered, and where queries are placed among them.
 
 ghost use Rattle.std.specs.Prelude.{◌≡◌};
 ghost use Rattle.std.specs.declared.cmp.Ordering.{Ordering};
@@ -32,7 +32,7 @@ pub trait Query<K: KeyOrder>: Placing<K> {
     ghost placed: { Placed K.KeyOrder.compares Self.Placing.places };
 }
 
-/// A query that stands at one place of the order: the keys that it is the same as are the same as each other.
+/// A query that stands at one place of the order: any two keys to which it compares as the same compare as the same with one another.
 pub trait PointQuery<K: KeyOrder>: Query<K> {
     ghost pointed: { Pointed K.KeyOrder.compares Self.Placing.places };
 }

@@ -1,8 +1,10 @@
 -- Worked cuts, over numbers as entries. A tree is shown by the number of its nodes and by its rows, each node before its children.
+--   shown, sized   a tree with its height, so shown; and only the lengths of its rows
 --   twelve      the keys 1 to 12, put in by rising order
 --   cut_at q     the comparisons of a cut at q, and its two parts
 --   mended s    a tree whose border is repaired at side s
 --   bare s      a border child with nothing in it, below a root of two entries; each other node below the root has four
+--   WorkedCuts   each line of the first list computes to that line of the second
 use Rattle.std.specs.Prelude.{◌≡◌, ℕ, suc, ◌+◌, List, [], ◌∷◌, map, length, nat_lt}
 use Rattle.node.specs.declared.ends.Side.{Side}
 use Rattle.node.specs.declared.ends.Side.TheVariants.{First, Last}
@@ -18,7 +20,6 @@ Line = ℕ × List (List ℕ)
 abbrev pub shown : ℕ × Tree ℕ → Line
 shown p = (weigh (λ _. 1) p.0 p.1, rows p.0 p.1)
 
--- only the lengths of the rows
 abbrev pub sized : ℕ × Tree ℕ → Line
 sized p = (weigh (λ _. 1) p.0 p.1, map length (rows p.0 p.1) ∷ [])
 

@@ -10,9 +10,9 @@ use node::head::{CAPACITY, Head};
 use node::nodes::Internal;
 use supply::{Fault, Supply};
 
-/// The edge of `node` at `idx`.
+/// The edge of `node` at `idx`; `Breach` where it has none.
 pub fn edge_of(heads: &[Head], node: u16, idx: usize) -> Result<u16, Fault>
-    ensures { MatchResult result (λ c. c ≡ edge heads.now node idx) (λ _. (node < length heads.now → idx < 12 → ⊥)) }
+    ensures { MatchResult result (λ c. c ≡ edge heads.now node idx) (λ f. (f ≡ Fault.Breach) × (node < length heads.now → idx < 12 → ⊥)) }
 {
     let at = node as usize;
     if at >= heads.len() || idx > CAPACITY {

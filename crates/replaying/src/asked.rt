@@ -4,7 +4,7 @@ use crate::desk::Desk;
 use crate::reply::Reply;
 use crate::shared_desk::SharedDesk;
 use anyhow::Context;
-use books::refusals::Refusal;
+use calls::refusals::Refusal;
 use std::alloc::Global;
 use std::env::{self, Env};
 

@@ -4,8 +4,8 @@ use crate::reply::{BlendAnswer, Reply};
 use crate::script::Line;
 use crate::tables::DeskTables;
 use bank::bank::Bank;
-use books::calls::Call;
-use books::refusals::Refusal;
+use calls::calls::Call;
+use calls::refusals::Refusal;
 use order::blend::BlendNumber;
 use order::keys::{KeyOrder, Placing, Query};
 use std::alloc::Global;
@@ -21,7 +21,7 @@ pub struct Desk {
 
 impl Desk {
     ghost use Rattle.std.specs.Prelude.{◌≡◌};
-    ghost use Rattle.books.specs.Rules.{asked};
+    ghost use Rattle.calls.specs.Asking.{asked};
     ghost use Rattle.bank.specs.Calls.{told, itself, Performs};
     ghost use Rattle.replaying.specs.Desks.{books_of};
 

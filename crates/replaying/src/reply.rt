@@ -1,7 +1,7 @@
 //! What a line is answered, as the original's driver writes it.
 
 use crate::shape::Shape;
-use books::calls::Answer;
+use calls::calls::Answer;
 use order::blend::BlendNumber;
 use std::fmt;
 

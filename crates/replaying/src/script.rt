@@ -1,7 +1,7 @@
 //! Lines of a script: a letter, and numbers one blank apart.
 
 use crate::decade::Decade;
-use books::calls::Call;
+use calls::calls::Call;
 use node::ends::Side;
 use order::blend::BlendNumber;
 use std::error::Error;

@@ -3,8 +3,8 @@
 use crate::reply::{BlendAnswer, Reply};
 use crate::script::{Line, SharedLine};
 use crate::tables::DeskTables;
-use books::calls::Call;
-use books::refusals::Refusal;
+use calls::calls::Call;
+use calls::refusals::Refusal;
 use order::blend::BlendNumber;
 use order::keys::{KeyOrder, Placing, Query};
 use shared::sharing::SharedBank;
@@ -22,8 +22,8 @@ pub struct SharedDesk {
 impl SharedDesk {
     ghost use Rattle.std.specs.Prelude.{◌≡◌};
     ghost use Rattle.supply.specs.Callers.{caller_number};
-    ghost use Rattle.books.specs.Rules.{asked};
-    ghost use Rattle.books.specs.Runs.{event};
+    ghost use Rattle.calls.specs.Asking.{asked};
+    ghost use Rattle.calls.specs.Runs.{event};
     ghost use Rattle.bank.specs.Calls.{told, itself};
     ghost use Rattle.bank.specs.Fitting.{coded};
     ghost use Rattle.shared.specs.Moves.{Called, LaidOut, TurnsTo};

@@ -1,14 +1,14 @@
 //! The tables of a desk, and what stands in them.
 
 ghost use Rattle.std.specs.Prelude.{◌≡◌, ◌<◌, ◌≤◌, MatchResult};
-ghost use Rattle.books.specs.declared.refusals.Refusal.TheVariants as Refusal;
+ghost use Rattle.calls.specs.declared.refusals.Refusal.TheVariants as Refusal;
 
 use crate::path::Ends;
 use crate::reply::Reply;
 use crate::shape::Shape;
 use bank::bank::Bank;
 use books::places::Place;
-use books::refusals::Refusal;
+use calls::refusals::Refusal;
 use node::head::{CAPACITY, Head};
 use order::blend::BlendNumber;
 use std::alloc::Global;

@@ -1,15 +1,21 @@
--- Worked trees: keys put in one after the other, from an empty place on. A line has the nodes taken so far, and the rows of the tree, each
--- node before its children. The rows are those that the Rust map has after the same insertions.
+-- Worked trees: keys put in one after the other, from an empty place on.
+--   Book            the nodes taken so far, which are the numbers below that; the height; the tree
+--   first k         after the first key, which takes one node, for the root
+--   step k, sow ks  after one key more, and after several
+--   rows h t        the rows of a tree of height h, each node before its children
+--   joined ls       lists, one behind the other
+--   shape           the nodes taken so far, and the rows
+--   sixes n a       n rows of six, each seven above the one before it
+--   full            the keys 1 to 88, put in by rising order
+--   WorkedTrees     each line of the first list has the shape in that line of the second, as the Rust map has after the same insertions
 use Rattle.std.specs.Prelude.{◌≡◌, ℕ, zero, suc, ◌+◌, List, [], ◌∷◌, ◌++◌, map, nat_lt}
 use Rattle.node.specs.Cases.{count}
 use Rattle.node.specs.Shape.{Tree, row, kids, mk}
 use Rattle.rules.specs.Rules.{insert, run, need}
 
--- the nodes taken so far, which are the numbers below that; the height; the tree
 abbrev pub Book : Type 0
 Book = ℕ × (ℕ × Tree ℕ)
 
--- the first key takes one node, for the root
 abbrev pub first : ℕ → Book
 first k = (1, (0, mk 0 (k ∷ []) []))
 
@@ -31,12 +37,11 @@ rows (suc h) t = row t ∷ joined (map (rows h) (kids t))
 abbrev pub shape : Book → ℕ × List (List ℕ)
 shape (n, (h, t)) = (n, rows h t)
 
--- n rows of six, each seven above the one before it
 abbrev pub sixes : ℕ → ℕ → List (List ℕ)
 sixes zero a = []
 sixes (suc n) a = count 6 a 1 ∷ sixes n (a + 7)
 
--- the keys 1 to 88, put in by rising order: the last leaf and the root are full (which number a node has does not show in the shape)
+-- the last leaf and the root are full (which number a node has does not show in the shape)
 abbrev pub full : Book
 full = (13, (1, mk 12 (count 11 7 7) (map (λ es. mk 0 es []) (sixes 11 1) ++ mk 0 (count 11 78 1) [] ∷ [])))
 

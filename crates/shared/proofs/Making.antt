@@ -1,14 +1,14 @@
 -- Moves one after the other. Assumes nothing.
-use Rattle.std.proofs.Common.{◌≡◌, ℕ, ◌+◌, ◌<◌, List, [], ◌∷◌, ◌++◌, length, map, take, drop, set, get_or, Result, refl, sym, ap, ◌∙◌, subst, arith}
-use Rattle.std.proofs.lemmas.List.{take_more, take_more_set, drop-drop, drop-set-lt, map-append, reverse-append}
+use Rattle.std.proofs.Common.{◌≡◌, ℕ, ◌+◌, ◌<◌, List, [], ◌∷◌, ◌++◌, length, map, take, set, get_or, Result, refl, sym, ap, ◌∙◌, subst}
+use Rattle.std.proofs.lemmas.List.{take_more, take_more_set, map-append, reverse-append}
 use Rattle.std.specs.declared.cmp.Ordering.{Ordering}
 use Rattle.order.specs.Laws.{Ordered}
-use Rattle.books.specs.declared.calls.Answer.{Answer}
-use Rattle.books.specs.declared.calls.Call as Calls
-use Rattle.books.specs.declared.refusals.Refusal.{Refusal}
-use Rattle.books.specs.Refusals.{Code}
-use Rattle.books.specs.Rules.{Query, asked}
-use Rattle.books.specs.Runs.{event}
+use Rattle.calls.specs.declared.calls.Answer.{Answer}
+use Rattle.calls.specs.declared.calls.Call as Calls
+use Rattle.calls.specs.declared.refusals.Refusal.{Refusal}
+use Rattle.calls.specs.Refusals.{Code}
+use Rattle.calls.specs.Asking.{Query, asked}
+use Rattle.calls.specs.Runs.{event}
 use Rattle.bank.specs.Calls.{told, itself}
 use Rattle.bank.specs.Fitting.{coded}
 use Rattle.shared.specs.declared.moves.Move.{Move}
@@ -47,10 +47,6 @@ module _ {K V : Type 0} {compares : K → K → Ordering} (ordered : Ordered com
     made = (d₁, x.made, y.made);
     stands = λ before w o. all_stand ordered (y.moved ∷ x.moves) before d d₂ w (d₁, x.made, y.made) o;
   }
-
--- what stands behind the replies that were put down
-pub rest_same : {X : Type 0} (n : ℕ) (xs ys : List X) (x : X) → drop n ys ≡ drop n xs → drop (n + 1) (set ys n x) ≡ drop (n + 1) xs
-rest_same n xs ys x e = drop-set-lt (n + 1) ys n x (omega arith) ∙ sym (drop-drop 1 n ys) ∙ ap (drop 1) e ∙ drop-drop 1 n xs
 
 -- one more of the first moves and of the first replies
 replies_more : {K V : Type 0} (n : ℕ) (rs : List (Result (Reply K V) Refusal)) (r : Result (Reply K V) Refusal) → n < length rs → first_replies (n + 1) (set rs n r) ≡ first_replies n rs ++ told_reply r ∷ []

@@ -1,5 +1,5 @@
 -- What a call of the one that is served does to what both have, from what the bank says of it. Assumes nothing.
-use Rattle.std.proofs.Common.{◌≡◌, ℕ, ◌<◌, Result, Bool, true, false, cond, List, [], ◌∷◌, length, replicate, slice_index_or, Ok, Err, refl, sym, ap, ◌∙◌, subst, arith}
+use Rattle.std.proofs.Common.{◌≡◌, ℕ, ◌<◌, Result, Bool, true, false, cond, List, [], ◌∷◌, length, replicate, slice_index_or, inl, inr, MatchResult, Ok, Err, refl, sym, ap, ◌∙◌, subst, arith}
 use Rattle.std.specs.declared.cmp.Ordering.{Ordering}
 use Rattle.supply.specs.declared.callers.Caller.{Caller}
 use Rattle.supply.specs.declared.callers.Caller.TheVariants.{First, Second}
@@ -10,11 +10,11 @@ use Rattle.node.specs.Store.{Tables}
 use Rattle.books.specs.declared.places.Place.{Place}
 use Rattle.books.specs.declared.places.Place.TheVariants as P
 use Rattle.books.specs.Books.{Book, bare}
-use Rattle.books.specs.Refusals.{Code}
-use Rattle.books.specs.Rules.{check}
-use Rattle.books.specs.Runs.{Event}
+use Rattle.calls.specs.Refusals.{Code}
+use Rattle.calls.specs.Rules.{check}
+use Rattle.calls.specs.Runs.{Event}
 use Rattle.books.specs.States.{State, Models}
-use Rattle.bank.specs.Calls.{Fit, Met, Keeps, Performs}
+use Rattle.bank.specs.Calls.{Fit, FailsChecks, Met, Keeps, Performs}
 use Rattle.bank.specs.Gate.{Fits, kinds}
 use Rattle.bank.specs.Layout.{LaysOut, UnusedSupply, laid}
 use Rattle.shared.specs.SharedStates.{SharedState, of_caller, caller_state, view, other, shared_of}
@@ -132,8 +132,8 @@ module _ {K V : Type 0} (compares : K → K → Ordering) (ev : Event K V) (T T'
   fit_own : Fit (view d b) → Fit s
   fit_own f = subst Fit view_is f
 
-  pub called_of : Called compares b ev d d'
-  called_of = record {
+  pub called_of : (FailsChecks ev.call s → d' ≡ d) → Called compares b ev d d'
+  called_of same = record {
     by = refl;
     one = number_low c;
     performs = subst (λ z. Performs compares ev.call z (view d' b) ev.answer) (sym view_is) performs_after;
@@ -142,7 +142,18 @@ module _ {K V : Type 0} (compares : K → K → Ordering) (ev : Event K V) (T T'
     misfit = λ f. left_other (aside_of (performs.misfit (λ g. f (subst Fit (sym view_is) g))).1);
     refused = λ f e q. left_other (aside_of (performs.refused (fit_own f) e (ap (λ z. check (kinds z.places) ev.call) (sym view_is) ∙ q)).1);
     asks = λ q. left_other (aside_of (performs.asks q));
+    same = λ r. same (subst (FailsChecks ev.call) view_is r);
   }
+
+-- a call that the checks refuse leaves the state as it was
+pub failed_same : {K V : Type 0} {compares : K → K → Ordering} {ev : Event K V} {s s' : State K V} → Performs compares ev.call s s' ev.answer → FailsChecks ev.call s → s' ≡ s
+failed_same p (inl n) = (p.misfit n).1
+failed_same p (inr r) = (p.refused r.0 r.1.0 r.1.1).1
+
+-- what stands unchanged within something else
+pub within_same : {X Y E : Type 0} (f : X → Y) (x x' : X) (r : Result (Unit {0}) E) → MatchResult r (λ _. Unit {0}) (λ _. x' ≡ x) → MatchResult r (λ _. Unit {0}) (λ _. f x' ≡ f x)
+within_same f x x' (Ok u) w = tt
+within_same f x x' (Err e) w = ap f w
 
 -- ---- a turn
 

@@ -14,13 +14,12 @@ use Rattle.node.proofs.Frames.{frame}
 use Rattle.node.proofs.Numbers.{occurs_root, occurs_below}
 use Rattle.walk.proofs.Framing.{shown_frame}
 use Rattle.books.specs.declared.places.Place.{Place}
-use Rattle.books.specs.declared.places.Place.TheVariants as P
-use Rattle.books.specs.Books.{Book, bare, planted, walked, idle, uses, book_in, BookAt}
+use Rattle.books.specs.Books.{Book, bare, uses, book_in, BookAt, at_bare, at_tree, at_walk, at_idle}
 use Rattle.books.specs.Places.{place_in}
-use Rattle.books.specs.Refusals.{Code}
-use Rattle.books.specs.Runs.{Event}
+use Rattle.calls.specs.Refusals.{Code}
+use Rattle.calls.specs.Runs.{Event}
 use Rattle.books.specs.States.{State, Models}
-use Rattle.books.proofs.Running.{next_stands, sound_low}
+use Rattle.calls.proofs.Running.{next_stands, sound_low}
 use Rattle.bank.specs.Calls.{Fit}
 use Rattle.bank.specs.Gate.{Fits}
 use Rattle.bank.specs.Layout.{FitsAlone, UnusedSupply, Unused}
@@ -34,31 +33,23 @@ use Rattle.shared.specs.Moves.{Moved, turned, laid, called, more, past_of, Begun
 
 module _ {K V : Type 0} (compares : K → K → Ordering) (T T' : Tables K V) (len : length T'.heads ≡ length T.heads) where
   pub book_same : (p : Place) (b : Book (K × V)) → ((x : ℕ) → 0 < uses x b → SameBody T T' x × SameLink T T' x) → BookAt compares T p b → BookAt compares T' p b
-  book_same P.Bare bare o a = tt
-  book_same (P.Tree root count) bare o a = absurd a
-  book_same (P.Walk w) bare o a = absurd a
-  book_same P.Bare (planted h t) o a = absurd a
-  book_same (P.Tree root count) (planted h t) o a = record {
+  book_same p b o at_bare = at_bare
+  book_same p b o (at_tree h t a) = at_tree _ _ (record {
     root_is = a.root_is;
     holds = frame T T' h t len (λ x p. (o x p).0) (λ x p. (o x (omega (arith, occurs_below x h t))).1) a.holds;
     formed = a.formed;
     rooted = ((o (number t) (occurs_root h t)).1).parent_same ∙ a.rooted;
     count_is = a.count_is;
     in_order = a.in_order;
-  }
-  book_same (P.Walk w) (planted h t) o a = absurd a
-  book_same P.Bare (walked h t) o a = absurd a
-  book_same (P.Tree root count) (walked h t) o a = absurd a
-  book_same (P.Walk w) (walked h t) o a = record {
+  })
+  book_same p b o (at_walk h t a) = at_walk _ _ (record {
     low = a.low;
     shown = shown_frame T T' _ _ h t len (λ x p. (o x p).0) (λ x p. (o x (omega (arith, occurs_below x h t))).1) a.shown;
     rooted = ((o (number t) (occurs_root h t)).1).parent_same ∙ a.rooted;
     count_is = a.count_is;
     in_order = a.in_order;
-  }
-  book_same P.Bare idle o a = absurd a
-  book_same (P.Tree root count) idle o a = absurd a
-  book_same (P.Walk w) idle o a = a
+  })
+  book_same p b o (at_idle a) = at_idle a
 
 -- a number that is marked is out
 mark_some : (S : Stock) (x : ℕ) → 0 < mark S x → is_out S x ≡ true
@@ -185,7 +176,7 @@ module _ {K V : Type 0} {compares : K → K → Ordering} (ordered : Ordered com
       let s = next_stands compares ordered ev past (of_caller d b).stock (of_caller d' b).stock w.books t.books t.next (w.models.sixteen, all_sound compares (view d b) w.books w.models, w.even) in
       record {
         books = t.books;
-        fit = fits_on ordered (view d b) (view d' b) t.books w.fit c.performs.size t.models;
+        fit = fits_on (view d b) (view d' b) t.books w.fit c.performs.size t.models;
         models = t.models;
         stock = (of_caller d' b).stock;
         runs = (w.stock, (of_caller d b).stock, w.books, w.runs, w.resumed, t.next);
@@ -266,7 +257,7 @@ module _ {K V : Type 0} {compares : K → K → Ordering} (ordered : Ordered com
       go (Some past) q z v (inr e) =
           let t = c.keeps v.books v.fit v.models in
           let a = c.leaves v.books v.fit v.models in
-          let f = fits_on ordered (view d b) (view d' b) t.books v.fit c.performs.size t.models in
+          let f = fits_on (view d b) (view d' b) t.books v.fit c.performs.size t.models in
           let u = subst (λ m. Stands compares d m (past_of m ms)) e (w n l) in
           let h : length d'.tables.heads ≡ length d.tables.heads = sym f.size_is ∙ c.performs.size ∙ v.fit.size_is in
           subst (λ m. Stands compares d' m (cond (nat_eq m b) (more ev (past_of m ms)) (past_of m ms))) (sym e)

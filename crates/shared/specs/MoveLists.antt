@@ -10,23 +10,25 @@
 --   first_moves, first_replies    those of the first n
 use Rattle.std.specs.Prelude.{◌≡◌, ℕ, List, ◌++◌, map, reverse, take, Ok, Err, Result}
 use Rattle.std.specs.declared.cmp.Ordering.{Ordering}
-use Rattle.books.specs.declared.refusals.Refusal.{Refusal}
-use Rattle.books.specs.Refusals.{Code, code}
-use Rattle.books.specs.Rules.{Query, asked}
+use Rattle.calls.specs.declared.refusals.Refusal.{Refusal}
+use Rattle.calls.specs.Refusals.{Code, code}
+use Rattle.calls.specs.Asking.{Query, Asked, asked}
 use Rattle.shared.specs.declared.moves.Move.{Move}
-use Rattle.shared.specs.declared.moves.Move.TheVariants.{LayOut, Turn, Call}
+use Rattle.shared.specs.declared.moves.Move.TheVariants as M
 use Rattle.shared.specs.declared.moves.Reply.{Reply}
 use Rattle.shared.specs.declared.moves.Reply.TheVariants as R
 use Rattle.shared.specs.Moves.{Moved, turned, laid, called, Makes, MakesAll, LaidFirst, BothStand}
 use Rattle.shared.specs.SharedStates.{SharedState}
 
-abbrev pub AskedMove : Type 0 → Type 0 → Type 0
-AskedMove K V = Move K V (Query K) (Query K)
+pub data AskedMove (K V : Type 0) : Type 0 where
+  LayOut : AskedMove K V
+  Turn : ℕ → AskedMove K V
+  Call : Asked K V → AskedMove K V
 
 abbrev pub asked_move : {K V P Q : Type 0} → (P → Query K) → (Q → Query K) → Move K V P Q → AskedMove K V
-asked_move points places LayOut = LayOut
-asked_move points places (Turn n) = Turn n
-asked_move points places (Call c) = Call (asked points places c)
+asked_move points places M.LayOut = LayOut
+asked_move points places (M.Turn n) = Turn n
+asked_move points places (M.Call c) = Call (asked points places c)
 
 abbrev pub replied : {K V X : Type 0} → (X → Reply K V) → Result X Code → Result (Reply K V) Code
 replied f (Ok x) = Ok (f x)

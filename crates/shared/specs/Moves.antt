@@ -6,7 +6,7 @@
 --   LaidOut b         a laying out for caller b: refused for the tables, or for what this caller has out, with nothing changed; else as laid_for
 --   LeavesOther b     who is served, both limits, and the other's places and numbers are as they were; its numbers are barred for caller b
 --   Called b          a call of caller b: what the bank promises of it, of the bank as this caller means it; and in good form, or where the
---                     call is refused for tables or places, or asks only, the other is left alone
+--                     call is refused for tables or places, or asks only, the other is left alone; where it is so refused, nothing has changed
 --   Makes d x d'      what one move makes of the bank
 --   MakesAll ms d d'  these moves, the last one first, led from d to d'
 --   past_of n ms      the calls of caller n since its last granted laying out, the last one first; none before the first
@@ -20,11 +20,11 @@ use Rattle.order.specs.Laws.{Ordered}
 use Rattle.supply.specs.Stocks.{Stock, is_barred}
 use Rattle.books.specs.declared.places.Place.TheVariants as P
 use Rattle.books.specs.Books.{Book, bare}
-use Rattle.books.specs.Refusals.{Code}
-use Rattle.books.specs.Rules.{check}
-use Rattle.books.specs.Runs.{Event, Even, Low}
+use Rattle.calls.specs.Refusals.{Code}
+use Rattle.calls.specs.Rules.{check}
+use Rattle.calls.specs.Runs.{Event, Even, Low}
 use Rattle.books.specs.States.{Models}
-use Rattle.bank.specs.Calls.{Fit, Asks, Keeps, Performs}
+use Rattle.bank.specs.Calls.{Fit, FailsChecks, Asks, Keeps, Performs}
 use Rattle.bank.specs.Gate.{kinds}
 use Rattle.bank.specs.Layout.{FitsAlone, UnusedSupply}
 use Rattle.shared.specs.SharedStates.{CallerState, SharedState, caller_state, of_caller, view, other, Unbegun}
@@ -75,6 +75,7 @@ pub record Called {K V : Type 0} (compares : K → K → Ordering) (b : ℕ) (ev
   pub misfit : (Fit (view d b) → ⊥) → LeavesOther b d d'
   pub refused : Fit (view d b) → (e : Code) → check (kinds (of_caller d b).places) ev.call ≡ Some e → LeavesOther b d d'
   pub asks : Asks ev.call ≡ true → LeavesOther b d d'
+  pub same : FailsChecks ev.call (view d b) → d' ≡ d
 
 abbrev pub Makes : {K V : Type 0} → (K → K → Ordering) → SharedState K V → Moved K V → SharedState K V → Type 0
 Makes compares d (turned n r) d' = TurnsTo n d d' r
@@ -127,7 +128,7 @@ Stands compares d n (Some past) = EvenSince compares d n past
 abbrev pub BothStand : {K V : Type 0} → (K → K → Ordering) → SharedState K V → List (Moved K V) → Type 0
 BothStand compares d ms = (n : ℕ) → n < 2 → Stands compares d n (past_of n ms)
 
--- whatever is done by turns: where each caller's calls come behind a granted laying out, the counts come out even for each by itself
+-- whatever is done by turns: each caller who lays out before it calls comes out even, whatever the other does
 abbrev pub MovesStand : Type 0 → Type 0 → Type 0
 MovesStand K V =
     (compares : K → K → Ordering) (ms : List (Moved K V)) (d d' : SharedState K V) → Ordered compares → Unbegun d.first → Unbegun d.second → MakesAll compares ms d d' → LaidFirst ms → BothStand compares d' ms

@@ -6,7 +6,7 @@ use Rattle.std.specs.Prelude.{◌≡◌, List, [], ◌∷◌, replicate}
 use Rattle.std.specs.declared.cmp.Ordering.{Ordering}
 use Rattle.supply.specs.Stocks.{Stock}
 use Rattle.books.specs.Books.{Book, bare}
-use Rattle.books.specs.Runs.{Event, Next}
+use Rattle.calls.specs.Runs.{Event, Next}
 
 pub record Resumed (S S' : Stock) : Type 0 where
   pub marks : S'.marks ≡ S.marks

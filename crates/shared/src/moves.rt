@@ -1,6 +1,6 @@
 //! The moves of two callers as values, and what they answer.
 
-use books::calls::{Answer, Call};
+use calls::calls::{Answer, Call};
 
 /// What is asked of a bank for two callers. A laying out and a call are for the caller that is served.
 #[derive(Clone, Copy, PartialEq, Eq, Debug)]

@@ -2,14 +2,14 @@
 
 ghost use Rattle.std.specs.Prelude.{◌≡◌, ◌<◌, MatchResult, length, slice_set};
 ghost use Rattle.supply.specs.Callers.{caller_number};
-ghost use Rattle.books.specs.declared.refusals.Refusal.TheVariants as Refusal;
+ghost use Rattle.calls.specs.declared.refusals.Refusal.TheVariants as Refusal;
 
 use crate::moves::{Move, Reply};
 use bank::bank::Bank;
 use bank::perform::lesser;
-use books::calls::{Answer, Call};
 use books::places::Register;
-use books::refusals::Refusal;
+use calls::calls::{Answer, Call};
+use calls::refusals::Refusal;
 use node::head::Head;
 use order::keys::{KeyOrder, Placing, PointQuery, Query};
 use supply::Supply;
@@ -48,12 +48,12 @@ impl<S: Supply> SharedBank<S> {
     ghost use Rattle.books.specs.declared.places.Place.TheVariants as Place;
     ghost use Rattle.supply.specs.declared.callers.Caller.TheVariants as Caller;
     ghost use Rattle.node.specs.Store.{tables};
-    ghost use Rattle.books.specs.Rules.{asked};
-    ghost use Rattle.books.specs.Runs.{event};
-    ghost use Rattle.bank.specs.Calls.{told, itself};
+    ghost use Rattle.calls.specs.Asking.{asked};
+    ghost use Rattle.calls.specs.Runs.{event};
+    ghost use Rattle.bank.specs.Calls.{told, itself, FailsChecks};
     ghost use Rattle.bank.specs.Fitting.{coded};
     ghost use Rattle.bank.specs.Lists.{Lesser};
-    ghost use Rattle.shared.specs.SharedStates.{Unbegun, caller_state};
+    ghost use Rattle.shared.specs.SharedStates.{Unbegun, caller_state, view};
     ghost use Rattle.shared.specs.SharedBanks.{state_of, caller_in};
     ghost use Rattle.shared.specs.Moves.{Called, LaidOut, TurnsTo};
     ghost use Rattle.shared.specs.MoveLists.{asked_move, told_reply, MakesMove, Performed, first_moves, first_replies};
@@ -63,6 +63,7 @@ impl<S: Supply> SharedBank<S> {
     pub fn new(below: S, first: u16, second: u16) -> SharedBank<S>
         ensures caller { result.bank.supply.caller ≡ Caller.First }
         ensures size { result.bank.size ≡ 0 }
+        ensures below { result.bank.supply.below ≡ below }
         ensures first { caller_in S.Supply result 0 ≡ caller_state (replicate 16 Place.Bare) (unshared (S.stock below) 0 first second) }
         ensures second { caller_in S.Supply result 1 ≡ caller_state (replicate 16 Place.Bare) (unshared (S.stock below) 1 second first) }
         ensures unbegun { (n : ℕ) → n < 2 → Unbegun (caller_in S.Supply result n) }
@@ -96,7 +97,9 @@ impl<S: Supply> SharedBank<S> {
         keys: &[K],
         values: &[V],
     ) -> Result<(), Refusal>
-        ensures { LaidOut K.KeyOrder.compares (caller_number self.old.bank.supply.caller) (coded result) (state_of S.Supply self.old (tables heads.now keys.now values.now)) (state_of S.Supply self.new (tables heads.now keys.now values.now)) }
+        ensures does { LaidOut K.KeyOrder.compares (caller_number self.old.bank.supply.caller) (coded result) (state_of S.Supply self.old (tables heads.now keys.now values.now)) (state_of S.Supply self.new (tables heads.now keys.now values.now)) }
+        ensures same { MatchResult result (λ _. Unit {0}) (λ _. self.new ≡ self.old) }
+        ensures supply { self.new.bank.supply ≡ self.old.bank.supply }
     {
         self.bank.lay_out(heads, keys, values)
     }
@@ -110,7 +113,9 @@ impl<S: Supply> SharedBank<S> {
         values: &[V],
         caller: u16,
     ) -> Result<(), Refusal>
-        ensures { TurnsTo caller (state_of S.Supply self.old (tables heads.now keys.now values.now)) (state_of S.Supply self.new (tables heads.now keys.now values.now)) (coded result) }
+        ensures does { TurnsTo caller (state_of S.Supply self.old (tables heads.now keys.now values.now)) (state_of S.Supply self.new (tables heads.now keys.now values.now)) (coded result) }
+        ensures same { MatchResult result (λ _. Unit {0}) (λ _. self.new ≡ self.old) }
+        ensures below { self.new.bank.supply.below ≡ self.old.bank.supply.below }
     {
         let caller = caller_of(caller)?;
         self.bank.fit(heads.len(), keys.len(), values.len())?;
@@ -128,7 +133,9 @@ impl<S: Supply> SharedBank<S> {
         values: &mut [V],
         call: &Call<K, V, P, Q>,
     ) -> Result<Answer<K, V>, Refusal>
-        ensures { Called K.KeyOrder.compares (caller_number self.old.bank.supply.caller) (event (asked P.Placing.places Q.Placing.places call.now) (told itself result)) (state_of S.Supply self.old (tables heads.old keys.old values.old)) (state_of S.Supply self.new (tables heads.new keys.new values.new)) }
+        ensures does { Called K.KeyOrder.compares (caller_number self.old.bank.supply.caller) (event (asked P.Placing.places Q.Placing.places call.now) (told itself result)) (state_of S.Supply self.old (tables heads.old keys.old values.old)) (state_of S.Supply self.new (tables heads.new keys.new values.new)) }
+        ensures same { FailsChecks (asked P.Placing.places Q.Placing.places call.now) (view (state_of S.Supply self.old (tables heads.old keys.old values.old)) (caller_number self.old.bank.supply.caller)) → self.new ≡ self.old }
+        ensures resting { self.new.resting ≡ self.old.resting }
     {
         self.bank.perform(heads, keys, values, call)
     }

@@ -1,7 +1,7 @@
 //! A bank for two callers with its tables, asked by calls that are given as values.
 
-use books::calls::{Answer, Call};
-use books::refusals::Refusal;
+use calls::calls::{Answer, Call};
+use calls::refusals::Refusal;
 use node::ends::Side;
 use node::head::Head;
 use order::blend::BlendNumber;

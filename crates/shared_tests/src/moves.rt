@@ -1,8 +1,8 @@
 //! Moves given as values.
 
 use crate::desk::{Asked, Desk, NONE, Replied, insert, lookup};
-use books::calls::Answer;
-use books::refusals::Refusal;
+use calls::calls::Answer;
+use calls::refusals::Refusal;
 use shared::moves::{Move, Reply};
 use std::test::Fail;
 use supply::links::Chain;

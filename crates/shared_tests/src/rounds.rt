@@ -1,8 +1,8 @@
 //! A thousand calls of two callers, whose order and content a generator gives.
 
 use crate::desk::{Ask, Desk, FREE, Told, cut, insert, lookup, next, next_back};
-use books::calls::{Answer, Call};
-use books::refusals::Refusal;
+use calls::calls::{Answer, Call};
+use calls::refusals::Refusal;
 use node::head::Head;
 use order::blend::BlendNumber;
 use std::alloc::Global;

@@ -1,8 +1,8 @@
 //! Turns and layings out.
 
 use crate::desk::{Desk, FREE, NONE, handed, insert, lookup, next, next_back, none_left};
-use books::calls::{Answer, Call};
-use books::refusals::Refusal;
+use calls::calls::{Answer, Call};
+use calls::refusals::Refusal;
 use std::alloc::Global;
 use std::process::Abort;
 use std::test::Fail;

@@ -3,7 +3,7 @@
 use crate::blending::print_calls;
 use crate::day::batch;
 use crate::works::{BatchCall, Works};
-use books::calls::Call;
+use calls::calls::Call;
 use order::day::Day;
 use order::stamp::BatchStamp;
 use supply::links::Chain;

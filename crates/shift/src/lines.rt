@@ -1,8 +1,8 @@
 //! Calls on batch books and their answers, as they are printed.
 
 use crate::works::{BatchAnswer, BatchCall};
-use books::calls::{Answer, Call};
-use books::refusals::Refusal;
+use calls::calls::{Answer, Call};
+use calls::refusals::Refusal;
 use node::ends::Side;
 use std::{fmt, io};
 

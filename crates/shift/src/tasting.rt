@@ -4,8 +4,8 @@ use crate::blending::{BATCHES, NEXT_DAY, TRIALS, bookings, counts, enter, look_u
 use crate::card::print_nodes;
 use crate::lines::{Asked, Told, print_line};
 use crate::works::{BatchCall, CELLS, NO_BATCH, NO_NODE, NO_STAMP, NODES};
-use books::calls::Call;
-use books::refusals::Refusal;
+use calls::calls::Call;
+use calls::refusals::Refusal;
 use node::head::Head;
 use order::keys::{KeyOrder, Placing};
 use order::stamp::BatchStamp;

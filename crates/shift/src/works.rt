@@ -1,8 +1,8 @@
 //! A blending works: the bank of its batch books, with the tables that they stand in.
 
 use bank::bank::Bank;
-use books::calls::{Answer, Call};
-use books::refusals::Refusal;
+use calls::calls::{Answer, Call};
+use calls::refusals::Refusal;
 use node::head::{CAPACITY, Head, NULL};
 use order::blend::BlendNumber;
 use order::keys::{KeyOrder, Placing, Query};
@@ -49,7 +49,7 @@ pub struct Works<S> {
 
 impl<S: Supply> Works<S> {
     ghost use Rattle.std.specs.Prelude.{◌≡◌};
-    ghost use Rattle.books.specs.Rules.{asked};
+    ghost use Rattle.calls.specs.Asking.{asked};
     ghost use Rattle.bank.specs.Calls.{told, itself, Performs};
     ghost use Rattle.bank.specs.Fitting.{coded};
     ghost use Rattle.bank.specs.Layout.{LaysOut};

@@ -1,4 +1,8 @@
--- What a shared supply owes: no more allowed than its size less what is out, and no number out that is barred.
+-- What a shared supply owes.
+--   marked_among              marks that are among others are no more
+--   in_take, off_take         what is marked in the first so many is marked; what is not marked is not marked there
+--   lesser_left, lesser_right   the lesser of two is at most either
+--   shares_sound              no more is allowed than its size less what is out, and no number is out that is barred
 use Rattle.std.specs.Prelude.{◌≡◌, ℕ, suc, ◌-◌, ◌<◌, ◌≤◌, Bool, true, false, cond, List, [], ◌∷◌, length, take, nat_eq, slice_index_or, refl}
 use Rattle.std.proofs.Common.{sym, ap, ◌∙◌, ⊎_elim, length-take, arith}
 use Rattle.std.proofs.lemmas.Bool.{both_ways, cases_lt}
@@ -8,7 +12,6 @@ use Rattle.std.proofs.lemmas.List.{get_or-take, get_or_past}
 use Rattle.supply.specs.Stocks.{Stock, size_of, barred_by, outs_of, kept_size, marked, Sound}
 use Rattle.supply.specs.Shares.{lesser, share_stock, Lent, Divided}
 
--- marks that are among others are no more
 pub marked_among : (m m' : List Bool) → ((n : ℕ) → slice_index_or m n false ≡ true → slice_index_or m' n false ≡ true) → marked m ≤ marked m'
 marked_among [] m' f = omega arith
 marked_among (true ∷ m) [] f = absurd (both_ways false refl (f 0 refl))
@@ -19,7 +22,6 @@ marked_among (true ∷ m) (b ∷ m') f =
 marked_among (false ∷ m) (b ∷ m') f =
     omega (arith, sum_by-cons (λ b. cond b 1 0) false m, sum_by-cons (λ b. cond b 1 0) b m', marked_among m m' (λ n e. f (suc n) e))
 
--- what is marked in the first so many
 pub in_take : (size : ℕ) (m : List Bool) (n : ℕ) → slice_index_or (take size m) n false ≡ true → slice_index_or m n false ≡ true
 in_take size m n e =
     ⊎_elim

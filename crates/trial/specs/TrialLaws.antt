@@ -1,4 +1,5 @@
 -- The law that the supply for trials owes: never more allowed than the size less what is out.
+--   trial_sound   so it is, whatever is out
 use Rattle.std.specs.Prelude.{ℕ, ◌≤◌, Bool, List, take}
 use Rattle.std.proofs.Common.{length-take, arith}
 use Rattle.supply.specs.Stocks.{Sound}

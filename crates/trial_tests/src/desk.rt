@@ -1,8 +1,8 @@
 //! A bank with its tables, asked by calls that are given as values and audited after each.
 
 use bank::bank::Bank;
-use books::calls::{Answer, Call};
-use books::refusals::Refusal;
+use calls::calls::{Answer, Call};
+use calls::refusals::Refusal;
 use node::ends::Side;
 use node::head::Head;
 use order::blend::BlendNumber;

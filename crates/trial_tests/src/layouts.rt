@@ -6,7 +6,7 @@ use crate::desk::{
 };
 use crate::dice::Dice;
 use crate::orders::{NODES, by_sevens, downward, from_both_ends, in_order, interleaved};
-use books::refusals::Refusal;
+use calls::refusals::Refusal;
 use std::test::Fail;
 use supply::Supply;
 use supply::links::Chain;

@@ -6,7 +6,7 @@ use crate::desk::{
     next_back, none_left, not_found, open, opened, parted, release, short,
 };
 use crate::orders::in_order;
-use books::calls::Answer;
+use calls::calls::Answer;
 use std::process::Abort;
 use std::test::Fail;
 use supply::Supply;

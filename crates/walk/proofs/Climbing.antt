@@ -1,22 +1,16 @@
 -- The way up from the edge of a leaf. Assumes nothing.
 use Rattle.std.proofs.lemmas.Option.{none-some}
-use Rattle.std.proofs.Common.{◌≡◌, ℕ, zero, suc, ◌+◌, ◌-◌, ◌<◌, List, [], ◌∷◌, ◌++◌, IsErrAnd, Some, None, Ok, Err, Option, Result, sym, refl, ap, ◌∙◌, subst, ap₂, arith}
+use Rattle.std.proofs.Common.{◌≡◌, ℕ, zero, suc, ◌+◌, ◌-◌, ◌<◌, List, [], ◌∷◌, ◌++◌, Some, None, Ok, Option, Result, sym, refl, ap, ◌∙◌, subst, ap₂, arith}
 use Rattle.supply.specs.declared.faults.Fault.{Fault}
-use Rattle.supply.specs.declared.faults.Fault.TheVariants.{Breach}
 use Rattle.node.specs.declared.head.Head.{Head}
 use Rattle.node.specs.declared.ends.Handle.{Handle}
 use Rattle.node.specs.declared.ends.Side.{Side}
 use Rattle.node.specs.Store.{head_in}
 use Rattle.walk.specs.declared.climb.Spot.{Spot}
-use Rattle.walk.specs.Climbs.{Breached, spot, up, up_from, ups, beside, Edged, Past, Rises, Finds}
+use Rattle.walk.specs.Climbs.{spot, up, up_from, ups, beside, Edged, Past, Rises, Finds}
 
 pub some_number : (i j : ℕ) → ◌≡◌ {A = Option ℕ} (Some i) (Some j) → i ≡ j
 some_number i j e = cc
-
--- what the exit of a `?` returns
-pub breached_by : {X : Type 0} (r : Result X Fault) (y : Fault) → IsErrAnd r (λ z. z ≡ y) → y ≡ Breach → Breached r
-breached_by (Ok x) y e q = tt
-breached_by (Err z) y e q = e ∙ q
 
 module _ (s : Side) (H : List Head) where
   -- whether there is an entry beside an edge

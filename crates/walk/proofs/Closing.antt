@@ -17,7 +17,8 @@ use Rattle.node.proofs.Balances.{balanced_both, balanced_as, mark_most, mark_unu
 use Rattle.node.proofs.Numbers.{few_nodes}
 use Rattle.node.proofs.Weaves.{weave_size, total_le, total_map}
 use Rattle.walk.specs.declared.walks.Walk.{Walk}
-use Rattle.walk.specs.Climbs.{Breached, ups, Tops}
+use Rattle.node.specs.Breaches.{Breached}
+use Rattle.walk.specs.Climbs.{ups, Tops}
 use Rattle.walk.specs.Leaving.{Clears}
 use Rattle.walk.specs.Steps.{step}
 use Rattle.walk.specs.Walks.{Walks, Emptied, Closes}

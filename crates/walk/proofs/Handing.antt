@@ -24,7 +24,7 @@ use Rattle.walk.specs.Leaving.{Leaves}
 use Rattle.walk.specs.Steps.{step}
 use Rattle.walk.specs.Walks.{end_of, moved, Walks, Hands, Stepped, StandsAt}
 use Rattle.walk.specs.Window.{bounds, bound, put, Shown}
-use Rattle.walk.proofs.Climbing.{breached_by}
+use Rattle.node.proofs.Breaking.{breached_by}
 use Rattle.walk.proofs.Stepping.{length_cons, step_takes, step_stops}
 use Rattle.walk.proofs.Walking.{Goes, goes}
 use Rattle.walk.proofs.Windows.{shown_fanned}

@@ -12,7 +12,8 @@ use Rattle.node.specs.Store.{head_in, times}
 use Rattle.node.proofs.Balances.{mark_unused, balanced_none, balanced_both, balanced_returned}
 use Rattle.node.proofs.Frames.{height_suc}
 use Rattle.node.proofs.Numbers.{same_self}
-use Rattle.walk.specs.Climbs.{Breached, ups, Tops}
+use Rattle.node.specs.Breaches.{Breached}
+use Rattle.walk.specs.Climbs.{ups, Tops}
 use Rattle.walk.specs.Leaving.{Leaves}
 
 module _ (H : List Head) where

@@ -1,10 +1,8 @@
 -- A whole tree as a walk. Assumes nothing.
 use Rattle.std.proofs.lemmas.Option.{none-some}
-use Rattle.std.proofs.Common.{◌≡◌, ℕ, zero, suc, ◌≤◌, List, [], ◌∷◌, ◌++◌, length, Some, None, Ok, Err, All, Option, Result, sym, refl, ap, ◌∙◌, subst, append-nil, arith, MatchResult}
-use Rattle.std.specs.Result.{result_or}
+use Rattle.std.proofs.Common.{◌≡◌, ℕ, zero, suc, ◌≤◌, List, [], ◌∷◌, ◌++◌, length, Some, None, Ok, Err, All, Option, Result, sym, refl, ap, ◌∙◌, subst, append-nil, arith}
 use Rattle.std.proofs.lemmas.List.Elements.{All-head, All-tail}
 use Rattle.supply.specs.declared.faults.Fault.{Fault}
-use Rattle.supply.specs.declared.faults.Fault.TheVariants.{Breach}
 use Rattle.supply.specs.Stocks.{Stock}
 use Rattle.node.specs.declared.ends.Handle.{Handle}
 use Rattle.node.specs.declared.ends.Side.{Side}
@@ -19,7 +17,7 @@ use Rattle.node.proofs.Descents.{ends_stand}
 use Rattle.node.proofs.Frames.{held_low, holds_node, holds_leaf, holds_fan, holds_linked, holds_kids}
 use Rattle.node.proofs.Weaves.{all_both}
 use Rattle.walk.specs.declared.walks.Walk.{Walk}
-use Rattle.walk.specs.Climbs.{Breached}
+use Rattle.node.specs.Breaches.{Breached}
 use Rattle.walk.specs.Walks.{Standing, Opened, Opens}
 use Rattle.walk.specs.Window.{Bounds, bounds, bound, put, outer, Pane, Leafs, Inner, Among, Shown}
 use Rattle.walk.proofs.Handing.{ok_is, err_ok}
@@ -36,13 +34,6 @@ module _ {X : Type 0} (P : Bounds → X → Type 0) where
   among_unbounded [] a = tt
   among_unbounded (k ∷ []) a = All-head (P unbounded) k [] a
   among_unbounded (k ∷ (k' ∷ ks)) a = (All-head (P unbounded) k (k' ∷ ks) a, among_unbounded (k' ∷ ks) (All-tail (P unbounded) k (k' ∷ ks) a))
-
-err_is : {X : Type 0} (y z : Fault) → ◌≡◌ {A = Result X Fault} (Err y) (Err z) → y ≡ z
-err_is y z e = cc
-
-pub or_breach : {X : Type 0} (y : Fault) (q : Result X Fault) → Err y ≡ result_or q (Err Breach) → y ≡ Breach
-or_breach y (Ok x) e = absurd (err_ok y x e)
-or_breach y (Err z) e = err_is y Breach e
 
 module _ {K V : Type 0} (T : Tables K V) where
   whole_pane : (least : ℕ) (t : Tree (K × V)) → Node T (number t) (row t) (numbers t) → least ≤ length (row t) → Pane T least unbounded t
@@ -145,20 +136,21 @@ module _ {K V : Type 0} (T : Tables K V) where
       some = λ m z S t w. subst (λ m. Standing T S m count t → Opened T S m.height t r) (some_is n m (sym q ∙ z)) (f S t) w;
     }
 
-    pub opens_strange : {X : Type 0} (P : X → Type 0) (y : Fault) (q : Result X Fault) (r : Result Walk Fault) → Breached r → Err y ≡ result_or q (Err Breach) → MatchResult q P (λ _. Strange T n.node) → Opens T o count r
-    opens_strange P y (Ok x) r g e a = absurd (err_ok y x e)
-    opens_strange P y (Err z) r g e a = opens_by r g (λ S t w. absurd (ready_normal S n count t w a))
+    pub opens_strange : (r : Result Walk Fault) → Breached r → Strange T n.node → Opens T o count r
+    opens_strange r g a = opens_by r g (λ S t w. absurd (ready_normal S n count t w a))
 
-    pub opens_lost : (s : Side) (y : Fault) (q : Result Handle Fault) (r : Result Walk Fault) → Breached r → Err y ≡ result_or q (Err Breach)
-        → (n.height ≤ 5 → Chain s T.heads n.height n.node → q ≡ Ok (end_edge s T.heads n.height n.node)) → Opens T o count r
-    opens_lost s y q r g e a =
-        opens_by r g (λ S t w. let c = ready_chain S n count t w s in absurd (err_ok y (end_edge s T.heads n.height n.node) (e ∙ ap (λ q. result_or q (Err Breach)) (a c.0 c.1))))
+    -- the code's answer for one end, where the tables hold a tree
+    abbrev Told : Side → Result Handle Fault → Type 0
+    Told s q = n.height ≤ 5 → Chain s T.heads n.height n.node → q ≡ Ok (end_edge s T.heads n.height n.node)
 
-    pub opens_done : (f g : Handle) (p q : Result Handle Fault) → Ok f ≡ result_or p (Err Breach) → Ok g ≡ result_or q (Err Breach) → (n.height ≤ 5 → Chain First T.heads n.height n.node → p ≡ Ok (end_edge First T.heads n.height n.node))
-        → (n.height ≤ 5 → Chain Last T.heads n.height n.node → q ≡ Ok (end_edge Last T.heads n.height n.node)) → Opens T o count (Ok (walk_of f g count))
-    opens_done f g p q x y a b =
+    pub opens_lost : (s : Side) (y : Fault) (r : Result Walk Fault) → Breached r → Told s (Err y) → Opens T o count r
+    opens_lost s y r g a =
+        opens_by r g (λ S t w. let c = ready_chain S n count t w s in absurd (err_ok y (end_edge s T.heads n.height n.node) (a c.0 c.1)))
+
+    pub opens_done : (f g : Handle) → Told First (Ok f) → Told Last (Ok g) → Opens T o count (Ok (walk_of f g count))
+    opens_done f g a b =
         opens_by (Ok (walk_of f g count)) tt
         (λ S t w.
         let c = ready_chain S n count t w First in
         let d = ready_chain S n count t w Last in
-        ready_opened S n count t w f g (ok_is f (end_edge First T.heads n.height n.node) (x ∙ ap (λ p. result_or p (Err Breach)) (a c.0 c.1))) (ok_is g (end_edge Last T.heads n.height n.node) (y ∙ ap (λ q. result_or q (Err Breach)) (b d.0 d.1))))
+        ready_opened S n count t w f g (ok_is f (end_edge First T.heads n.height n.node) (a c.0 c.1)) (ok_is g (end_edge Last T.heads n.height n.node) (b d.0 d.1)))

@@ -19,7 +19,7 @@ use Rattle.node.proofs.Frames.{height_suc, holds_kids}
 use Rattle.node.proofs.Numbers.{same_self}
 use Rattle.node.proofs.Recounts.{reached_stands, reached_kid, held_fan, recount}
 use Rattle.node.proofs.Weaves.{total_map, total_same}
-use Rattle.walk.specs.Climbs.{Breached}
+use Rattle.node.specs.Breaches.{Breached}
 use Rattle.walk.specs.Leaving.{under, GivesBack}
 use Rattle.walk.specs.Walks.{Standing, Releases}
 use Rattle.walk.proofs.Handing.{err_ok}
@@ -69,8 +69,8 @@ module _ (S : Stock) (H : List Head) (h m : ℕ) where
   gives_not : (S' : Stock) (r : Result (Unit {0}) Fault) → is_err r ≡ true → Breached r → (Reached H h m → ((x : ℕ) → under x H h m ≤ mark S x) → ⊥) → GivesBack S S' H h m r
   gives_not S' r e f n = record { fault = f; given = IfOk-from_err r _ e; whole = λ a b. absurd (n a b) }
 
-  pub gives_outside : (Stands H m → ⊥) → GivesBack S S H h m (Err Breach)
-  gives_outside n = gives_not S (Err Breach) refl refl (λ a b. n (reached_stands H h m a))
+  pub gives_outside : (r : Result (Unit {0}) Fault) → is_err r ≡ true → Breached r → (Stands H m → ⊥) → GivesBack S S H h m r
+  gives_outside r e b n = gives_not S r e b (λ a b. n (reached_stands H h m a))
 
   pub gives_declined : (S' : Stock) (r : Result (Unit {0}) Fault) → is_err r ≡ true → Breached r → is_out S m ≡ false → GivesBack S S' H h m r
   gives_declined S' r e f o = gives_not S' r e f (λ a b. omega (arith, b m, under_some H m h m, same_self m, mark_unused S m o))

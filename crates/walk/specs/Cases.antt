@@ -1,5 +1,7 @@
--- A worked walk: a root with the entry 7 above leaves with 1 to 6 and with 8 to 12. A line has the entries handed out at the front and at the
--- back, those left, and the nodes left.
+-- A worked walk.
+--   small        a root with the entry 7 above leaves with 1 to 6 and with 8 to 12
+--   line ss      after steps at these ends: the entries handed out at the front and at the back, those left, and how many nodes are left
+--   WorkedWalk   each line of the first list computes to that line of the second
 use Rattle.std.specs.Prelude.{◌≡◌, ℕ, List, [], ◌∷◌, replicate}
 use Rattle.node.specs.declared.ends.Side.{Side}
 use Rattle.node.specs.declared.ends.Side.TheVariants.{First, Last}

@@ -1,19 +1,19 @@
 -- The way up from the edge of a leaf, by the heads alone.
---   Breached r       a refusal is for a breach of good form
 --   up H e           the edge in the parent that leads to the node of e
 --   up_from H n e    the edge n levels up
 --   ups H n m        node m, its parent and so on: n nodes
 --   beside s len i   the entry behind or before edge i of a node with len entries: none at the end of the row
 --   onward s i       the edge on the far side of entry i
 --   Edged H e        e is an edge of a node that stands in the table
+--   Found s H e w    w names the entry beside the edge e
 --   Past s H n e     on n levels from e on there is no entry beside the edge
 --   Rises s H n e w  n levels up from e there is one, which w names
 --   Finds            what a search for such an entry answers
 --   Leads            what the way from an entry to the next edge answers
 --   Tops H n m       m is n levels below a node without a parent
-use Rattle.std.specs.Prelude.{◌≡◌, ℕ, zero, suc, ◌+◌, ◌-◌, ◌<◌, ◌≤◌, cond, List, [], ◌∷◌, length, Some, None, Ok, Err, Option, Result, nat_lt}
+use Rattle.std.specs.Prelude.{◌≡◌, ℕ, zero, suc, ◌+◌, ◌-◌, ◌<◌, ◌≤◌, cond, List, [], ◌∷◌, length, Some, None, Ok, Option, Result, nat_lt}
 use Rattle.supply.specs.declared.faults.Fault.{Fault}
-use Rattle.supply.specs.declared.faults.Fault.TheVariants.{Breach}
+use Rattle.node.specs.Breaches.{Breached}
 use Rattle.node.specs.declared.head.Head.{Head}
 use Rattle.node.specs.declared.ends.Handle.{Handle}
 use Rattle.node.specs.declared.ends.Side.{Side}
@@ -22,10 +22,6 @@ use Rattle.node.specs.Ends.{Chain, end_edge}
 use Rattle.node.specs.Links.{edge}
 use Rattle.node.specs.Store.{head_in}
 use Rattle.walk.specs.declared.climb.Spot.{Spot}
-
-abbrev pub Breached : {X : Type 0} → Result X Fault → Type 0
-Breached (Ok x) = Unit {0}
-Breached (Err f) = f ≡ Breach
 
 abbrev pub handle : ℕ → ℕ → Handle
 handle m i = record { node = m; idx = i }

@@ -12,7 +12,8 @@ use Rattle.node.specs.Counts.{fan, Reached}
 use Rattle.node.specs.Laws.{same}
 use Rattle.node.specs.Shape.{total}
 use Rattle.node.specs.Store.{times}
-use Rattle.walk.specs.Climbs.{Breached, ups, Tops}
+use Rattle.node.specs.Breaches.{Breached}
+use Rattle.walk.specs.Climbs.{ups, Tops}
 
 pub record Leaves (S S' : Stock) (H : List Head) (n m : ℕ) (r : Result (Unit {0}) Fault) : Type 0 where
   pub fault : Breached r

@@ -27,7 +27,8 @@ use Rattle.node.specs.Shape.{Tree, number, flat, Formed, root_least}
 use Rattle.node.specs.Store.{Tables, Sized, Node}
 use Rattle.walk.specs.declared.climb.Spot.{Spot}
 use Rattle.walk.specs.declared.walks.Walk.{Walk}
-use Rattle.walk.specs.Climbs.{Breached, handle}
+use Rattle.node.specs.Breaches.{Breached}
+use Rattle.walk.specs.Climbs.{handle}
 use Rattle.walk.specs.Steps.{cons, step}
 use Rattle.walk.specs.Window.{bounds, Shown}
 

@@ -1,9 +1,10 @@
 //! The way from the edge of a leaf up to the next entry, and down again.
 
 ghost use Rattle.std.specs.Prelude.{◌≡◌, ℕ, ◌+◌, ◌<◌, ◌≤◌, length, IfOk, IfSome, Ok, MatchResult};
+ghost use Rattle.node.specs.Breaches.{Breached};
 ghost use Rattle.node.specs.Store.{head_in};
 ghost use Rattle.walk.specs.Leaving.{Leaves, Clears};
-ghost use Rattle.walk.specs.Climbs.{Breached, beside, Edged, Finds, Leads, Tops};
+ghost use Rattle.walk.specs.Climbs.{beside, Edged, Finds, Leads, Tops};
 
 use node::count::{MAX_HEIGHT, len_at};
 use node::ends::{Handle, Side, leaf_edge};
@@ -23,10 +24,11 @@ pub struct Spot {
 fn edged(heads: &[Head], at: Handle) -> Result<u16, Fault>
     ensures { MatchResult result (λ n. Edged heads.now at × (n ≡ (head_in heads.now at.node).len)) (λ f. (f ≡ Fault.Breach) × (Edged heads.now at → ⊥)) }
 {
-    match len_at(heads, at.node) {
-        Ok(len) if at.idx as usize <= len => Ok(len as u16),
-        _ => Err(Fault::Breach),
+    let len = len_at(heads, at.node)?;
+    if at.idx as usize > len {
+        return Err(Fault::Breach);
     }
+    Ok(len as u16)
 }
 
 /// The index of the entry beside an edge, on the way from this side.
@@ -103,7 +105,7 @@ pub(crate) fn next_edge(heads: &[Head], side: Side, spot: Spot) -> Result<Handle
         node: heads[spot.node as usize].edges[idx as usize],
         height: spot.level - 1,
     };
-    leaf_edge(heads, side, under).or(Err(Fault::Breach))
+    leaf_edge(heads, side, under)
 }
 
 /// Gives back `count` nodes: `node`, its parent and so on.

@@ -1,7 +1,8 @@
 //! Walks over the entries of a tree, from both ends.
 
 ghost use Rattle.std.specs.Prelude.{◌≡◌, ◌*◌, ◌<◌, ◌≤◌, true, length, Ok};
-ghost use Rattle.walk.specs.Climbs.{Breached, Finds};
+ghost use Rattle.node.specs.Breaches.{Breached};
+ghost use Rattle.walk.specs.Climbs.{Finds};
 ghost use Rattle.walk.specs.Leaving.{GivesBack};
 ghost use Rattle.walk.specs.Walks.{end_of, moved, Opens, Stepped, StandsAt, Emptied, Closes, Releases};
 
@@ -31,7 +32,7 @@ fn entry_at<K: Copy, V: Copy>(tables: &Tables<'_, K, V>, spot: Spot) -> Result<(
     ensures fault { Breached result }
     ensures entry { StandsAt tables.now spot result }
 {
-    tables.len_in(spot.node).or(Err(Fault::Breach))?;
+    tables.len_in(spot.node)?;
     let at = CAPACITY * spot.node as usize + spot.idx as usize;
     let Tables { keys, values, .. } = tables;
     Ok((keys[at], values[at]))
@@ -158,10 +159,10 @@ impl Walk {
                 left: 0,
             });
         };
-        tables.len_in(root.node).or(Err(Fault::Breach))?;
+        tables.len_in(root.node)?;
         Ok(Walk {
-            front: leaf_edge(tables.heads, Side::First, root).or(Err(Fault::Breach))?,
-            back: leaf_edge(tables.heads, Side::Last, root).or(Err(Fault::Breach))?,
+            front: leaf_edge(tables.heads, Side::First, root)?,
+            back: leaf_edge(tables.heads, Side::Last, root)?,
             left: count,
         })
     }
@@ -207,9 +208,7 @@ fn give_back_under<S: Supply>(
     requires { height ≤ 5 }
     ensures { GivesBack (S.stock supply.old) (S.stock supply.new) heads.now height node result }
 {
-    let Ok(len) = len_at(heads, node) else {
-        return Err(Fault::Breach);
-    };
+    let len = len_at(heads, node)?;
     supply.give_back(node)?;
     if height == 0 {
         return Ok(());

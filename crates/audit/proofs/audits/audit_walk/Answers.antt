@@ -7,8 +7,11 @@ use Rattle.walk.specs.Climbs.{Tops}
 use Rattle.walk.specs.Walks.{Nodeless}
 use Rattle.walk.proofs.Stepping.{some_is}
 use Rattle.audit.specs.Audits.{Leads, TreeWhole}
-use Rattle.audit.proofs.Booked.{walk_bounds, walked_by, walk_book, idle_whole}
+use Rattle.audit.proofs.Booked.{idle_book, walk_bounds, walked_by, walk_book, idle_whole}
 use Rattle.audit.proofs.audits.audit_walk.Goals as goal
+
+pub returns-then-is_idle-clause-sound : goal.returns-then-is_idle-clause-sound
+returns-then-is_idle-clause-sound g c = λ e sz. idle_book g.K.KeyOrder.compares c.args.tables.now sz c.args.walk c.args.met.now (c.if-is_idle.ensures.0 refl)
 
 pub returns-then-is_idle-clause-whole : goal.returns-then-is_idle-clause-whole
 returns-then-is_idle-clause-whole g c = λ b sz v u. (refl, idle_whole g.K.KeyOrder.compares c.args.tables.now sz c.args.walk c.args.met.now b (c.if-is_idle.ensures.0 refl) v)

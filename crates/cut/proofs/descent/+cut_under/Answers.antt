@@ -19,7 +19,7 @@ returns-in_err-move_suffix-clause-cuts g _ c = λ S t fresh s w z em en a.
     let n = c.args.node in
     let v = c.in_ok-idx.ensures in
     absurd (err_not_ok _ _ (moves place (tables c.args.heads.now c.args.keys.now c.args.values.now) (tables c.move_suffix.new.heads c.move_suffix.new.keys c.move_suffix.new.values) n.node c.in_ok-idx.idx c.in_ok-idx.count c.args.right v _ n.height
-    c.in_err-move_suffix.ensures S t fresh (record { sized = s; left = w; right = z; at_left = em; at_right = en; apart = a })).0)
+    c.in_err-move_suffix.ensures.moves S t fresh (record { sized = s; left = w; right = z; at_left = em; at_right = en; apart = a })).0)
 
 pub returns-in_default-clause-cuts : goal.returns-in_default-clause-cuts
 returns-in_default-clause-cuts g _ c =
@@ -27,7 +27,7 @@ returns-in_default-clause-cuts g _ c =
     let n = c.args.node in
     let v = c.in_ok-idx.ensures in
     cut_leaf place (tables c.args.heads.now c.args.keys.now c.args.values.now) (tables c.move_suffix.new.heads c.move_suffix.new.keys c.move_suffix.new.values) n.node c.in_ok-idx.idx c.in_ok-idx.count c.args.right v _ n.height
-    (forced_leaf n c.in_default.field-0 c.in_default.ensures).0 c.in_ok-move_suffix.ensures
+    (forced_leaf n c.in_default.field-0 c.in_default.ensures).0 c.in_ok-move_suffix.ensures.moves
 
 pub returns-in_err-child-clause-cuts : goal.returns-in_err-child-clause-cuts
 unfolding Cuts
@@ -39,9 +39,9 @@ returns-in_err-child-clause-cuts g _ c = λ S t fresh s w z em en a.
     let v = c.in_ok-idx.ensures in
     let k = forced_inner n c.in-Internal.inner c.in-Internal.ensures in
     let d = moves place T T₁ n.node c.in_ok-idx.idx c.in_ok-idx.count c.args.right v _ n.height
-    c.in_ok-move_suffix.ensures S t fresh (record { sized = s; left = w; right = z; at_left = em; at_right = en; apart = a }) in
+    c.in_ok-move_suffix.ensures.moves S t fresh (record { sized = s; left = w; right = z; at_left = em; at_right = en; apart = a }) in
     absurd (no_edge c.move_suffix.new.heads
-    c.in-Internal.inner.node n.node c.in_ok-idx.idx k.1 d.2 (omega (arith, v.few)) c.in_err-child.ensures)
+    c.in-Internal.inner.node n.node c.in_ok-idx.idx k.1 d.2 (omega (arith, v.few)) c.in_err-child.ensures.1)
 
 pub returns-in_err-beside-clause-cuts : goal.returns-in_err-beside-clause-cuts
 unfolding Cuts
@@ -52,9 +52,9 @@ returns-in_err-beside-clause-cuts g _ c = λ S t fresh s w z em en a.
     let n = c.args.node in
     let v = c.in_ok-idx.ensures in
     let d = moves place T T₁ n.node c.in_ok-idx.idx c.in_ok-idx.count c.args.right v _ n.height
-    c.in_ok-move_suffix.ensures S t fresh (record { sized = s; left = w; right = z; at_left = em; at_right = en; apart = a }) in
+    c.in_ok-move_suffix.ensures.moves S t fresh (record { sized = s; left = w; right = z; at_left = em; at_right = en; apart = a }) in
     absurd (no_edge c.move_suffix.new.heads
-    c.args.right c.args.right 0 refl d.1 (omega arith) c.in_err-beside.ensures)
+    c.args.right c.args.right 0 refl d.1 (omega arith) c.in_err-beside.ensures.1)
 
 pub returns-in_err-below-clause-cuts : goal.returns-in_err-below-clause-cuts
 unfolding Cuts
@@ -66,7 +66,7 @@ returns-in_err-below-clause-cuts g _ c = λ S t fresh s w z em en a.
     let same : ◌≡◌ {A = Tables _ _} (tables c.move_suffix.new.heads c.move_suffix.new.keys c.move_suffix.new.values) (tables c.move_suffix.new.heads c.move_suffix.new.keys c.move_suffix.new.values) = refl in
     absurd (not_refused place (tables c.args.heads.now c.args.keys.now c.args.values.now) (tables c.move_suffix.new.heads c.move_suffix.new.keys c.move_suffix.new.values) n.node c.in_ok-idx.idx c.in_ok-idx.count c.args.right v _
     same (tables c.cut_under.new.heads c.cut_under.new.keys c.cut_under.new.values) c.in-Internal.inner.node c.in_ok-child.child c.in_ok-beside.beside k.1 c.in_ok-child.ensures c.in_ok-beside.ensures
-    n.height k.0 c.in_ok-move_suffix.ensures c.child.result c.child.ensures.0 (c.child.ensures.1 ∙ ap (λ h. h - 1) k.2) _ c.in_err-below.ensures.cuts
+    n.height k.0 c.in_ok-move_suffix.ensures.moves c.child.result c.child.ensures.0 (c.child.ensures.1 ∙ ap (λ h. h - 1) k.2) _ c.in_err-below.ensures.cuts
     S t fresh (record { sized = s; left = w; right = z; at_left = em; at_right = en; apart = a }))
 
 pub returns-clause-cuts : goal.returns-clause-cuts
@@ -78,4 +78,4 @@ returns-clause-cuts g _ c =
     let same : ◌≡◌ {A = Tables _ _} (tables c.move_suffix.new.heads c.move_suffix.new.keys c.move_suffix.new.values) (tables c.move_suffix.new.heads c.move_suffix.new.keys c.move_suffix.new.values) = refl in
     cut_inner place (tables c.args.heads.now c.args.keys.now c.args.values.now) (tables c.move_suffix.new.heads c.move_suffix.new.keys c.move_suffix.new.values) n.node c.in_ok-idx.idx c.in_ok-idx.count c.args.right v _
     same (tables c.cut_under.new.heads c.cut_under.new.keys c.cut_under.new.values) c.in-Internal.inner.node c.in_ok-child.child c.in_ok-beside.beside k.1 c.in_ok-child.ensures c.in_ok-beside.ensures
-    n.height k.0 c.in_ok-move_suffix.ensures c.child.result c.child.ensures.0 (c.child.ensures.1 ∙ ap (λ h. h - 1) k.2) c.in_ok-below.below c.in_ok-below.ensures.cuts
+    n.height k.0 c.in_ok-move_suffix.ensures.moves c.child.result c.child.ensures.0 (c.child.ensures.1 ∙ ap (λ h. h - 1) k.2) c.in_ok-below.below c.in_ok-below.ensures.cuts

@@ -11,7 +11,7 @@ returns-in_err-leaf g _ c = λ ks vs fits room. absurd (omega (arith, c.in_err-l
 
 pub returns-in_err-new_leaf : goal.returns-in_err-new_leaf
 unfolding TakesSpine
-returns-in_err-new_leaf g _ c = λ ks vs fits room. absurd (omega (arith, c.in_err-new_leaf.ensures, c.in_ok-leaf.ensures.taken.below))
+returns-in_err-new_leaf g _ c = λ ks vs fits room. absurd (omega (arith, c.in_err-new_leaf.ensures.1, c.in_ok-leaf.ensures.taken.below))
 
 pub returns-then-height-eq0 : goal.returns-then-height-eq0
 unfolding TakesSpine
@@ -47,7 +47,7 @@ returns-in_err-push_level g _ c = λ ks vs fits room.
     let S₁ = g.S.Supply.stock c.take_spine.new.supply in
     let S₂ = g.S.Supply.stock c.take-2.new.self in
     let h = c.args.height - 1 in
-    absurd (c.in_err-push_level.ensures (omega (arith, d.below, w.balanced.size, w.beside.heads_len, fits))
+    absurd (c.in_err-push_level.ensures.1 (omega (arith, d.below, w.balanced.size, w.beside.heads_len, fits))
     (new_child_in H H₁ ks vs S S₁ S₂ h c.in_ok-child.child c.in_ok-node.node w d)
     (new_other H H₁ ks vs S S₁ S₂ h c.in_ok-child.child c.in_ok-node.node w d))
 

@@ -1,14 +1,14 @@
 use Rattle.std.proofs.Common.{◌≡◌, ap, ◌∙◌, subst}
-use Rattle.std.proofs.lemmas.Result.{MatchResult-from_err}
 use Rattle.node.specs.Links.{edge}
+use Rattle.node.proofs.Breaking.{refused_by}
 use Rattle.node.proofs.Forced.{forced_leaf, forced_inner}
 use Rattle.node.proofs.Descents.{Descent, chain_stands, descent_leaf, descent_more}
 use Rattle.node.proofs.ends.+descend.Goals as goal
 
 pub returns-in_err-len : goal.returns-in_err-len
 returns-in_err-len t c =
-    MatchResult-from_err c.from_residual.result _ _ c.from_residual.ensures.0
-    (λ _ w. c.in_err-len.ensures (chain_stands c.args.side c.args.heads.now c.args.node.height c.args.node.node w))
+    refused_by c.from_residual.result _ _ _ c.from_residual.ensures.1 c.in_err-len.ensures.0
+    (λ w. c.in_err-len.ensures.1 (chain_stands c.args.side c.args.heads.now c.args.node.height c.args.node.node w))
 
 pub returns-in-Leaf : goal.returns-in-Leaf
 returns-in-Leaf t c =

@@ -19,7 +19,7 @@ returns-in_err-len g _ c = λ t o e.
     let p = c.in-Internal.parent in
     let k = forced_inner c.args.node p c.in-Internal.ensures in
     absurd (held_not_strange (tables c.args.heads.now c.args.keys.now c.args.values.now) c.args.node.height p.node t o.sized o.holds (e ∙ sym k.1)
-    (c.in_err-len.ensures))
+    c.in_err-len.ensures.1)
 
 pub returns-then-len-eq0 : goal.returns-then-len-eq0
 returns-then-len-eq0 g _ c =

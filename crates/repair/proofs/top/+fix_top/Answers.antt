@@ -19,7 +19,7 @@ pub returns-in_err-len : goal.returns-in_err-len
 unfolding FixesTop
 returns-in_err-len g _ c = λ ks vs t o e z low.
     let k = forced_inner c.args.root c.in-Internal.top c.in-Internal.ensures in
-    absurd (c.in_err-len.ensures (subst (Stands c.args.heads.now) (e ∙ sym k.1) (held_stands (tables c.args.heads.now ks vs) c.args.root.height t o.holds)))
+    absurd (c.in_err-len.ensures.1 (subst (Stands c.args.heads.now) (e ∙ sym k.1) (held_stands (tables c.args.heads.now ks vs) c.args.root.height t o.holds)))
 
 pub returns-then-len-gt0 : goal.returns-then-len-gt0
 returns-then-len-gt0 g _ c = λ ks vs.
@@ -32,7 +32,7 @@ unfolding FixesTop
 returns-in_err-below g _ c = λ ks vs t o e z low.
     let k = forced_inner c.args.root c.in-Internal.top c.in-Internal.ensures in
     absurd (not_popped c.args.heads.now ks vs (g.S.Supply.stock c.args.supply.now) c.args.root.height c.in-Internal.top.node
-    k.0 (omega (arith, c.if-len-gt0.false, c.in_ok-len.ensures.1)) t o (e ∙ sym k.1) c.in_err-below.ensures)
+    k.0 (omega (arith, c.if-len-gt0.false, c.in_ok-len.ensures.1)) t o (e ∙ sym k.1) c.in_err-below.ensures.1)
 
 pub returns-in_err-give_back : goal.returns-in_err-give_back
 unfolding FixesTop

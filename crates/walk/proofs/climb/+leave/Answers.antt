@@ -1,5 +1,5 @@
 use Rattle.std.proofs.Common.{arith}
-use Rattle.walk.proofs.Climbing.{breached_by}
+use Rattle.node.proofs.Breaking.{breached_by}
 use Rattle.walk.proofs.Leaving.{leaves_none, leaves_outside, leaves_declined, leaves_more}
 use Rattle.walk.proofs.climb.+leave.Goals as goal
 

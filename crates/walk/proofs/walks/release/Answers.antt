@@ -1,4 +1,4 @@
-use Rattle.walk.proofs.Climbing.{breached_by}
+use Rattle.node.proofs.Breaking.{breached_by}
 use Rattle.walk.proofs.Releasing.{releases_high, releases_broken, releases_done}
 use Rattle.walk.proofs.walks.release.Goals as goal
 

@@ -1,5 +1,5 @@
-use Rattle.std.proofs.Common.{true}
 use Rattle.node.specs.Store.{tables}
+use Rattle.books.specs.Kinds.{any_kind}
 use Rattle.bank.specs.Banks.{state_of}
 use Rattle.bank.proofs.Performing.{fit_of, asked_of, counted_done}
 use Rattle.bank.proofs.bank.Bank.count.Goals as goal
@@ -10,5 +10,5 @@ returns g c =
     let o = g.met.K.KeyOrder.ordered in
     let f = fit_of s c.in_ok-fit.ensures in
     let z = (g.met.S.Supply.sound c.args.self.now.supply).apart in
-    let w = asked_of o s f z (λ _. true) c.args.place c.in_ok-here.here c.in_ok-here.ensures in
+    let w = asked_of o s f z any_kind c.args.place c.in_ok-here.here c.in_ok-here.ensures in
     counted_done o s f z c.args.place c.in_ok-here.here w c.count_in.result c.count_in.ensures

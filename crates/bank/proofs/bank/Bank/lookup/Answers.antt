@@ -1,6 +1,6 @@
 use Rattle.std.proofs.lemmas.Result.{err_from_is_err_and}
 use Rattle.node.specs.Store.{tables}
-use Rattle.books.specs.Rules.{is_map}
+use Rattle.books.specs.Kinds.{is_map}
 use Rattle.bank.specs.Banks.{state_of}
 use Rattle.bank.proofs.Performing.{fit_of, asked_of, looked_done, looked_not}
 use Rattle.bank.proofs.bank.Bank.lookup.Goals as goal

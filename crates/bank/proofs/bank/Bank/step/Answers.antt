@@ -1,14 +1,15 @@
 use Rattle.std.proofs.Common.{refl}
 use Rattle.std.proofs.lemmas.Result.{err_from_is_err_and}
 use Rattle.node.specs.Store.{tables}
-use Rattle.books.specs.Rules.{is_walk}
+use Rattle.books.specs.Kinds.{is_walk}
 use Rattle.books.specs.declared.places.Place.TheVariants as P
+use Rattle.calls.specs.Asking.{Step}
 use Rattle.bank.specs.Banks.{state_of}
-use Rattle.bank.proofs.Performing.{fit_of, asked_of, stepped_done, stepped_not}
+use Rattle.bank.proofs.Performing.{fit_of, not_refused, asked_of, stepped_done, stepped_not}
 use Rattle.bank.proofs.bank.Bank.step.Goals as goal
 
-pub returns-in_err-after : goal.returns-in_err-after
-returns-in_err-after g c =
+pub returns-in_err-after-clause-does : goal.returns-in_err-after-clause-does
+returns-in_err-after-clause-does g c =
     let s = state_of g.S.Supply.stock c.args.self.now (tables c.args.heads.now c.args.keys.now c.args.values.now) in
     let o = g.met.K.KeyOrder.ordered in
     let f = fit_of s c.in_ok-fit.ensures in
@@ -17,11 +18,21 @@ returns-in_err-after g c =
     let p = err_from_is_err_and c.from_residual-in_err-after.result c.from_residual-in_err-after.ensures.1 in
     rw (p.1) (stepped_not o s f z c.args.place c.in_ok-walk.walk w c.args.side _ _ _ p.2 c.in_err-after.ensures)
 
-pub returns : goal.returns
-returns g c =
+pub returns-clause-does : goal.returns-clause-does
+returns-clause-does g c =
     let s = state_of g.S.Supply.stock c.args.self.now (tables c.args.heads.now c.args.keys.now c.args.values.now) in
     let o = g.met.K.KeyOrder.ordered in
     let f = fit_of s c.in_ok-fit.ensures in
     let z = (g.met.S.Supply.sound c.args.self.now.supply).apart in
     let w = asked_of o s f z is_walk c.args.place (P.Walk c.in_ok-walk.walk) (c.in_ok-walk.ensures refl) in
     rw (c.set.ensures) (stepped_done o s f z c.args.place c.in_ok-walk.walk w c.args.side _ c.in_ok-after.after c.in_ok-after.handed c.in_ok-after.ensures)
+
+pub returns-in_err-after-clause-same : goal.returns-in_err-after-clause-same
+returns-in_err-after-clause-same g c r =
+    let s = state_of g.S.Supply.stock c.args.self.now (tables c.args.heads.now c.args.keys.now c.args.values.now) in
+    absurd (not_refused (Step c.args.place c.args.side) s (fit_of s c.in_ok-fit.ensures) (c.in_ok-walk.ensures refl).0 r)
+
+pub returns-clause-same : goal.returns-clause-same
+returns-clause-same g c r =
+    let s = state_of g.S.Supply.stock c.args.self.now (tables c.args.heads.now c.args.keys.now c.args.values.now) in
+    absurd (not_refused (Step c.args.place c.args.side) s (fit_of s c.in_ok-fit.ensures) (c.in_ok-walk.ensures refl).0 r)

@@ -37,7 +37,7 @@ insert_under-returns-in_err-old-in-Found g _ c t owns m =
     let w = c.in_ok-way.ensures in
     let u = w.under _ t owns m in
     absurd (step_never _ c.in_ok-way.way.node (c.args.key, c.args.val) c.in_ok-way.way.above u.0 u.1 u.2 _ _ refl w.searched
-    _ _ c.in-Found.is c.in_err-old-in-Found.ensures _ refl)
+    _ _ c.in-Found.is c.in_err-old-in-Found.ensures.replaces _ refl)
 
 pub insert_under-returns-in_ok-old-in-Found : goal.insert_under-returns-in_ok-old-in-Found
 unfolding Descends
@@ -45,7 +45,7 @@ insert_under-returns-in_ok-old-in-Found g _ c =
     let w = c.in_ok-way.ensures in
     w.leads _ _ _ _ _ (λ t owns m.
     step_found _ c.in_ok-way.way.node _ _ t owns m _ _ refl w.searched
-    _ _ c.in-Found.is c.in_ok-old-in-Found.ensures _ refl)
+    _ _ c.in-Found.is c.in_ok-old-in-Found.ensures.replaces _ refl)
 
 pub insert_under-returns-in-Leaf : goal.insert_under-returns-in-Leaf
 unfolding Descends

@@ -6,9 +6,9 @@ use Rattle.node.proofs.Tabled.{ok_same, ok_unit, fan_at}
 use Rattle.node.proofs.Stealing.{pair_left_inside, pair_stole_left}
 use Rattle.node.proofs.nodes.Internal.steal_left_pair.Goals as goal
 
-pub returns : goal.returns
+pub returns-clause-steals : goal.returns-clause-steals
 unfolding StealsLeft PairedOf
-returns g c = λ l r us e ws es x gs fs xs bs ks qs ls s q up pn f1 f2 f3 fits kids.
+returns-clause-steals g c = λ l r us e ws es x gs fs xs bs ks qs ls s q up pn f1 f2 f3 fits kids.
     let eq = ok_same _ _ (c.requires.held l r us e ws (es ++ x ∷ gs) fs xs bs (ks ++ qs) ls s q) in
     let link = c.correct_childrens_parent_links in
     let H = c.args.heads.now in

@@ -6,18 +6,18 @@ use Rattle.node.proofs.Tabled.{ok_same, ok_unit, fan_at}
 use Rattle.node.proofs.Stealing.{pair_right_inside_l, pair_right_inside_r, pair_stole_right}
 use Rattle.node.proofs.nodes.Internal.steal_right_pair.Goals as goal
 
-pub returns-in_err-correct_childrens_parent_links : goal.returns-in_err-correct_childrens_parent_links
+pub returns-in_err-correct_childrens_parent_links-clause-steals : goal.returns-in_err-correct_childrens_parent_links-clause-steals
 unfolding StealsRight PairedOf
-returns-in_err-correct_childrens_parent_links g c = λ l r us e ws es gs x fs xs bs ks qs ls s q up pn f1 f2 f3 fits kids.
+returns-in_err-correct_childrens_parent_links-clause-steals g c = λ l r us e ws es gs x fs xs bs ks qs ls s q up pn f1 f2 f3 fits kids.
     let eq = ok_same _ _ (c.requires.held l r us e ws es (gs ++ x ∷ fs) xs bs ks (qs ++ ls) s q) in
     let all = pair_right_inside_l c.args.heads.now c.args.keys.now c.args.keys.now c.args.values.now c.args.values.now (c.args.self.height - 1) c.args.self.node c.args.pair.idx
     l r us e ws es gs x fs xs bs ks qs ls q f1 f2 f3 c.args.count pn fits kids c.edge_count-moved.result c.edge_count-rest.result c.move_edges-below.result c.move_edges-edges.result c.args.pair eq
     (record { fan_moved = fan_at _ _ _ _ c.child.ensures.1 c.edge_count-moved.ensures; fan_rest = fan_at _ _ _ _ c.child-2.ensures.1 c.edge_count-rest.ensures; put_below = c.move_edges-below.ensures; put_all = c.move_edges-edges.ensures }) in
     absurd (true≢false (sym (c.in_err-correct_childrens_parent_links.ensures.total all)))
 
-pub returns : goal.returns
+pub returns-clause-steals : goal.returns-clause-steals
 unfolding StealsRight PairedOf
-returns g c = λ l r us e ws es gs x fs xs bs ks qs ls s q up pn f1 f2 f3 fits kids.
+returns-clause-steals g c = λ l r us e ws es gs x fs xs bs ks qs ls s q up pn f1 f2 f3 fits kids.
     let eq = ok_same _ _ (c.requires.held l r us e ws es (gs ++ x ∷ fs) xs bs ks (qs ++ ls) s q) in
     let link = c.correct_childrens_parent_links-2 in
     let one = c.correct_childrens_parent_links.new.heads in

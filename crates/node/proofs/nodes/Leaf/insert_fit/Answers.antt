@@ -5,14 +5,14 @@ use Rattle.node.proofs.Tabled.{relinked_none, refit}
 use Rattle.node.proofs.Inserts.{inserted_node, inserted_rest}
 use Rattle.node.proofs.nodes.Leaf.insert_fit.Goals as goal
 
-pub returns-in_err-len : goal.returns-in_err-len
+pub returns-in_err-len-clause-inserts : goal.returns-in_err-len-clause-inserts
 unfolding InsertsFit
-returns-in_err-len g c = λ es fs ks sized node p q.
-    absurd (c.in_err-len.ensures sized node.inside (omega (arith, node.len_is)) (omega (arith, node.len_is, length-append es fs)))
+returns-in_err-len-clause-inserts g c = λ es fs ks sized node p q.
+    absurd (c.in_err-len.ensures.1 sized node.inside (omega (arith, node.len_is)) (omega (arith, node.len_is, length-append es fs)))
 
-pub returns : goal.returns
+pub returns-clause-inserts : goal.returns-clause-inserts
 unfolding InsertsFit
-returns g c = λ es fs ks sized node p q.
+returns-clause-inserts g c = λ es fs ks sized node p q.
     let H = c.args.heads.now in
     let m = c.args.self.node in
     let n = c.in_ok-len.len in

@@ -5,9 +5,9 @@ use Rattle.node.proofs.Tabled.{ok_unit}
 use Rattle.node.proofs.Tails.{tail_moved, tail_inside}
 use Rattle.node.proofs.nodes.NodeRef.move_tail.Goals as goal
 
-pub returns : goal.returns
+pub returns-clause-moves : goal.returns-clause-moves
 unfolding MovesTail
-returns g c = λ es gs fs ks ls cs sized node there front p1 p2 f1 l1 l2 f2 kids.
+returns-clause-moves g c = λ es gs fs ks ls cs sized node there front p1 p2 f1 l1 l2 f2 kids.
     let H = c.args.heads.now in
     let h = c.args.self.height in
     let len = c.requires.lies.len_is in

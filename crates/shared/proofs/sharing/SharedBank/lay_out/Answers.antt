@@ -4,11 +4,11 @@ use Rattle.bank.specs.Fitting.{coded}
 use Rattle.bank.specs.Layout.{LaysOut}
 use Rattle.supply.specs.Callers.{caller_number}
 use Rattle.shared.specs.Moves.{LaidOut}
-use Rattle.shared.proofs.Serving.{shared, own, laid_of}
+use Rattle.shared.proofs.Serving.{shared, own, laid_of, within_same}
 use Rattle.shared.proofs.sharing.SharedBank.lay_out.Goals as goal
 
-pub returns : goal.returns
-returns g c =
+pub returns-clause-does : goal.returns-clause-does
+returns-clause-does g c =
     let b = c.args.self.now.bank in
     let s = b.supply in
     let b' = c.lay_out.new.self in
@@ -23,3 +23,6 @@ returns g c =
     (sym c.lay_out.ensures.supply)
     (λ l. laid_of g.K.KeyOrder.compares T b.size b'.size s.caller b.register.places b'.register.places ps' B s.size s.served.limit s.served.marks s.other.limit s.other.marks r l)
     c.lay_out.ensures.lays_out
+
+pub returns-clause-same : goal.returns-clause-same
+returns-clause-same g c = within_same (λ b. record { bank = b; resting = c.args.self.now.resting }) c.args.self.now.bank c.lay_out.new.self c.lay_out.result c.lay_out.ensures.same

@@ -2,7 +2,8 @@ use Rattle.std.proofs.Common.{◌≡◌, ◌+◌, ◌∙◌, length, drop, refl,
 use Rattle.node.specs.Store.{tables}
 use Rattle.shared.specs.SharedBanks.{state_of}
 use Rattle.shared.specs.MoveLists.{Performed, first_moves, first_replies}
-use Rattle.shared.proofs.Making.{made_none, listed_more, rest_same}
+use Rattle.bank.proofs.Listing.{rest_same}
+use Rattle.shared.proofs.Making.{made_none, listed_more}
 use Rattle.shared.proofs.sharing.SharedBank.make_all.Goals as goal
 
 pub loop-idx-init : goal.loop-idx-init

@@ -1,4 +1,4 @@
-use Rattle.walk.proofs.Climbing.{breached_by}
+use Rattle.node.proofs.Breaking.{breached_by}
 use Rattle.walk.proofs.Closing.{closes_many, closes_broken, closes_done}
 use Rattle.walk.proofs.walks.Walk.close.Goals as goal
 
