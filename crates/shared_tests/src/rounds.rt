@@ -118,10 +118,10 @@ fn thousand<S: Supply + Drop>(
     rt: &impl Abort,
     heap: Global,
     supply: S,
-    seed: u32,
+    state: u32,
 ) -> Result<(), Fail> {
     let mut desk = Desk::laid_out(heap, supply, 8, 4)?;
-    let mut dice = Dice { state: seed };
+    let mut dice = Dice { state };
     let mut tallies = [Tally {
         entered: 0,
         gone: 0,
@@ -157,10 +157,10 @@ fn thousand<S: Supply + Drop>(
 
 #[test]
 fn both_callers_come_out_even(rt: HostRuntime) -> Result<(), Fail> {
-    for seed in [1u32, 2, 3] {
-        thousand(&rt, rt.alloc(), Chain::new(11), seed)?;
-        thousand(&rt, rt.alloc(), Bitmap::new(11), seed)?;
-        thousand(&rt, rt.alloc(), Shares::new(Bitmap::new(11), 10, 1), seed)?;
+    for state in [1u32, 2, 3] {
+        thousand(&rt, rt.alloc(), Chain::new(11), state)?;
+        thousand(&rt, rt.alloc(), Bitmap::new(11), state)?;
+        thousand(&rt, rt.alloc(), Shares::new(Bitmap::new(11), 10, 1), state)?;
     }
     Ok(())
 }
