@@ -12,6 +12,7 @@ import random
 import sys
 
 from book_model import Bank
+from script_lines import Lines
 
 NODES = 500
 LAST = 2**32 - 1
@@ -19,21 +20,8 @@ LAST = 2**32 - 1
 
 def stored():
     """The lines behind those of replay_script.py, from sixteen bare places on."""
-    out = []
-
-    def say(*words):
-        out.append(" ".join(str(word) for word in words))
-
-    def build(place, keys):
-        for key in keys:
-            say("p", place, key, 10 * key + 1)
-
-    def look(*places):
-        for place in places:
-            say("s", place)
-            say("l", place)
-        say("f")
-        say("a")
+    out = Lines()
+    say, build, look = out.say, out.build, out.look
 
     def leasts(place, tens):
         for each in tens:

@@ -9,25 +9,11 @@ the nodes that are out are those that the maps and walks reach.
 """
 import random
 
+from script_lines import Lines
+
 numbers = random.Random(20261118)
-out = []
-
-
-def say(*words):
-    out.append(" ".join(str(w) for w in words))
-
-
-def build(place, keys):
-    for k in keys:
-        say("p", place, k, 10 * k + 1)
-
-
-def look(*places):
-    for p in places:
-        say("s", p)
-        say("l", p)
-    say("f")
-    say("a")
+out = Lines()
+say, build, look = out.say, out.build, out.look
 
 
 def walk(place, letters, every):
