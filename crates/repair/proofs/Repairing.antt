@@ -1,7 +1,8 @@
 -- The top, the border, and the top again. Assumes nothing.
 use Rattle.node.specs.Kinds.{root_of}
-use Rattle.std.proofs.Common.{◌≡◌, ℕ, zero, suc, ◌≤◌, List, [], ◌∷◌, Ok, Err, Result, refl, ◌∙◌, subst, arith}
+use Rattle.std.proofs.Common.{◌≡◌, ℕ, zero, suc, ◌≤◌, List, [], ◌∷◌, IsErrAnd, Ok, Err, Result, refl, ap, ◌∙◌, subst, arith}
 use Rattle.supply.specs.declared.faults.Fault.{Fault}
+use Rattle.supply.specs.declared.faults.Fault.TheVariants.{Breach}
 use Rattle.supply.specs.Stocks.{Stock}
 use Rattle.node.specs.declared.ends.Side.{Side}
 use Rattle.node.specs.declared.nodes.NodeRef.{NodeRef}
@@ -13,6 +14,11 @@ use Rattle.parts.specs.Rules.{fix_top, lifted, mend, repair}
 use Rattle.repair.specs.Repair.{Became, Topped, Mended, FixesTop, Mends}
 use Rattle.repair.proofs.Becoming.{became_both, became_owns}
 use Rattle.repair.proofs.Mending.{mend_number}
+
+-- what the exit of a `?` returns for a breach
+pub breach_is : {X : Type 0} (r : Result X Fault) (y : Fault) → IsErrAnd r (λ z. z ≡ y) → y ≡ Breach → r ≡ Err Breach
+breach_is (Ok x) y e q = absurd e
+breach_is (Err z) y e q = ap Err (e ∙ q)
 
 -- a tree does not get higher
 pub top_low : {E : Type 0} (h : ℕ) (t : Tree E) → (fix_top h t).0 ≤ h

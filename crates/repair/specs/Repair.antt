@@ -4,14 +4,17 @@
 --   FixesTop     the roots without entries are taken off
 --   Mends        the border at side s is mended, from a node down; the node keeps its number and its link
 --   Repairs      the border of a root is repaired: its top, its border, and its top again
+--   Strays       a root above the leaves that does not lie in the tables is refused, with nothing changed
 use Rattle.node.specs.Kinds.{root_of}
-use Rattle.std.specs.Prelude.{◌≡◌, ℕ, ◌≤◌, Ok, Result}
+use Rattle.std.specs.Prelude.{◌≡◌, ℕ, ◌<◌, ◌≤◌, Ok, Err, Result}
 use Rattle.supply.specs.declared.faults.Fault.{Fault}
+use Rattle.supply.specs.declared.faults.Fault.TheVariants.{Breach}
 use Rattle.supply.specs.Stocks.{Stock}
 use Rattle.node.specs.declared.ends.Side.{Side}
 use Rattle.node.specs.declared.nodes.NodeRef.{NodeRef}
 use Rattle.node.specs.Shape.{Tree, number}
 use Rattle.node.specs.Store.{Tables, Holds, SameLink}
+use Rattle.node.specs.Operations.{Strange}
 use Rattle.node.specs.Laws.{occurs}
 use Rattle.node.specs.Balance.{Owns, Rooted, Balanced, Beside}
 use Rattle.parts.specs.Rules.{fix_top, mend, repair}
@@ -45,3 +48,6 @@ unfoldable pub Repairs : {K V : Type 0} → Side → Tables K V → Tables K V �
 Repairs {K} {V} s T T' S S' h m r =
     (t : Tree (K × V)) → Owns T S h t → number t ≡ m → Rooted T m → h ≤ 5
     → Topped T T' S S' h t (repair s h t) r
+
+unfoldable pub Strays : {K V : Type 0} → Tables K V → Tables K V → Stock → Stock → ℕ → ℕ → Result NodeRef Fault → Type 0
+Strays T T' S S' h m r = 0 < h → Strange T m → (r ≡ Err Breach) × (T' ≡ T) × (S' ≡ S)

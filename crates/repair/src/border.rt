@@ -1,10 +1,11 @@
 //! The border of a tree: its nodes at one side, merged with their neighbours or raised to six entries, from the top down.
 
-ghost use Rattle.std.specs.Prelude.{◌≡◌, ◌<◌};
+ghost use Rattle.std.specs.Prelude.{◌≡◌, ◌<◌, MatchResult};
 ghost use Rattle.node.specs.declared.ends.Side.TheVariants.{First, Last};
 ghost use Rattle.node.specs.Store.{tables};
 ghost use Rattle.parts.specs.Rules.{beside};
-ghost use Rattle.repair.specs.Repair.{Mends, Repairs};
+ghost use Rattle.node.specs.Operations.{Strange};
+ghost use Rattle.repair.specs.Repair.{Mends, Repairs, Strays};
 
 use crate::joint::join;
 use crate::top::fix_top;
@@ -53,6 +54,16 @@ fn mend<K: Copy, V: Copy, S: Supply>(
     mend(heads, keys, values, supply, side, parent.child(child))
 }
 
+/// Refuses a root above the leaves that does not lie in the tables, or tables that do not fit together.
+fn check_root<K, V>(tables: &Tables<'_, K, V>, root: NodeRef) -> Result<(), Fault>
+    ensures { MatchResult result (λ _. 0 < root.height → Strange tables.now root.node → ⊥) (λ f. (f ≡ Fault.Breach) × (0 < root.height) × Strange tables.now root.node) }
+{
+    if let ForceResult::Internal(top) = root.force() {
+        tables.len_in(top.node)?;
+    }
+    Ok(())
+}
+
 /// Takes roots without entries off, mends the border at `side`, and takes roots without entries off again.
 fn fix_border<K: Copy, V: Copy, S: Supply>(
     heads: &mut [Head],
@@ -62,8 +73,15 @@ fn fix_border<K: Copy, V: Copy, S: Supply>(
     side: Side,
     root: NodeRef,
 ) -> Result<NodeRef, Fault>
-    ensures { Repairs side (tables heads.old keys.old values.old) (tables heads.new keys.new values.new) (S.stock supply.old) (S.stock supply.new) root.height root.node result }
+    ensures repairs { Repairs side (tables heads.old keys.old values.old) (tables heads.new keys.new values.new) (S.stock supply.old) (S.stock supply.new) root.height root.node result }
+    ensures strays { Strays (tables heads.old keys.old values.old) (tables heads.new keys.new values.new) (S.stock supply.old) (S.stock supply.new) root.height root.node result }
 {
+    let shown = Tables {
+        heads,
+        keys,
+        values,
+    };
+    check_root(&shown, root)?;
     let top = fix_top::<K, V, S>(heads, supply, root)?;
     mend(heads, keys, values, supply, side, top)?;
     fix_top::<K, V, S>(heads, supply, top)
@@ -77,7 +95,8 @@ pub fn fix_right_border<K: Copy, V: Copy, S: Supply>(
     supply: &mut S,
     root: NodeRef,
 ) -> Result<NodeRef, Fault>
-    ensures { Repairs Last (tables heads.old keys.old values.old) (tables heads.new keys.new values.new) (S.stock supply.old) (S.stock supply.new) root.height root.node result }
+    ensures repairs { Repairs Last (tables heads.old keys.old values.old) (tables heads.new keys.new values.new) (S.stock supply.old) (S.stock supply.new) root.height root.node result }
+    ensures strays { Strays (tables heads.old keys.old values.old) (tables heads.new keys.new values.new) (S.stock supply.old) (S.stock supply.new) root.height root.node result }
 {
     fix_border(heads, keys, values, supply, Side::Last, root)
 }
@@ -90,7 +109,8 @@ pub fn fix_left_border<K: Copy, V: Copy, S: Supply>(
     supply: &mut S,
     root: NodeRef,
 ) -> Result<NodeRef, Fault>
-    ensures { Repairs First (tables heads.old keys.old values.old) (tables heads.new keys.new values.new) (S.stock supply.old) (S.stock supply.new) root.height root.node result }
+    ensures repairs { Repairs First (tables heads.old keys.old values.old) (tables heads.new keys.new values.new) (S.stock supply.old) (S.stock supply.new) root.height root.node result }
+    ensures strays { Strays (tables heads.old keys.old values.old) (tables heads.new keys.new values.new) (S.stock supply.old) (S.stock supply.new) root.height root.node result }
 {
     fix_border(heads, keys, values, supply, Side::First, root)
 }

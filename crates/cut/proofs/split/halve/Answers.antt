@@ -63,7 +63,7 @@ returns-in_err-left g c = λ t o e z low.
     let w : SpineTaken T T₁ S S₁ h n = c.in_ok-top.ensures ks vs o.fits c.in_ok-spare.ensures in
     let T₃ = (tables c.fix_right_border.new.heads c.fix_right_border.new.keys c.fix_right_border.new.values) in
     let S₃ = g.S.Supply.stock c.fix_right_border.new.supply in
-    absurd (err_not_ok _ _ (left_done place T S h m t o e z low T₁ S₁ n w T₂ _ c.in_ok-made.ensures.cuts T₃ S₃ _ c.in_err-left.ensures).answer)
+    absurd (err_not_ok _ _ (left_done place T S h m t o e z low T₁ S₁ n w T₂ _ c.in_ok-made.ensures.cuts T₃ S₃ _ c.in_err-left.ensures.repairs).answer)
 
 pub returns-in_err-right : goal.returns-in_err-right
 unfolding Halves TakesSpine
@@ -84,7 +84,7 @@ returns-in_err-right g c = λ t o e z low.
     let S₃ = g.S.Supply.stock c.fix_right_border.new.supply in
     let T₄ = (tables c.fix_left_border.new.heads c.fix_left_border.new.keys c.fix_left_border.new.values) in
     let S₄ = g.S.Supply.stock c.fix_left_border.new.supply in
-    absurd (err_not_ok _ _ (right_done place T S h m t o e z low T₁ S₁ n w T₂ _ c.in_ok-made.ensures.cuts T₃ S₃ _ c.in_ok-left.ensures T₄ S₄ _ c.in_err-right.ensures).answer)
+    absurd (err_not_ok _ _ (right_done place T S h m t o e z low T₁ S₁ n w T₂ _ c.in_ok-made.ensures.cuts T₃ S₃ _ c.in_ok-left.ensures.repairs T₄ S₄ _ c.in_err-right.ensures.repairs).answer)
 
 pub returns : goal.returns
 unfolding Halves TakesSpine
@@ -108,6 +108,6 @@ returns g c = λ t o e z low.
     record {
       declined = λ f. absurd (omega (arith, c.in_ok-spare.ensures));
       granted = λ _.
-          halves_at place T S h m t o e z low T₁ S₁ n w T₂ (Ok c.in_ok-made.made) c.in_ok-made.ensures.cuts T₃ S₃ (Ok c.in_ok-left.left) c.in_ok-left.ensures
-          T₄ S₄ (Ok c.in_ok-right.right) c.in_ok-right.ensures c.in_ok-made.made c.in_ok-left.left c.in_ok-right.right refl refl refl;
+          halves_at place T S h m t o e z low T₁ S₁ n w T₂ (Ok c.in_ok-made.made) c.in_ok-made.ensures.cuts T₃ S₃ (Ok c.in_ok-left.left) c.in_ok-left.ensures.repairs
+          T₄ S₄ (Ok c.in_ok-right.right) c.in_ok-right.ensures.repairs c.in_ok-made.made c.in_ok-left.left c.in_ok-right.right refl refl refl;
     }
