@@ -16,14 +16,29 @@ use std::env::Env;
 use std::io::{BufRead, BufReader, Input};
 
 /// Performs the lines of the program's input, on the bank that its arguments ask for: as many nodes as the first says, and for two
-/// callers, by turns, where the limits of both follow. Ends with an error at a line that asks for nothing.
+/// callers, by turns, where the limits of both follow. Ends with an error at a line that asks for nothing. All lines are read into one
+/// buffer.
 pub fn replay<R: Env + AllocGlobal + Input + Print>(rt: &R) -> anyhow::Result<()> {
     let mut desk = AskedDesk::asked(rt)?;
-    for text in BufReader::new(rt.alloc(), rt.reader())?.lines(rt.alloc()) {
-        match desk.perform(text?.as_str())? {
+    let mut reader = BufReader::new(rt.alloc(), rt.reader())?;
+    let mut text = String::new(rt.alloc());
+    for _ in 0..u64::MAX {
+        text.clear();
+        if reader.read_line(&mut text)? == 0 {
+            break;
+        }
+        match desk.perform(without_end(text.as_str()))? {
             Ok(reply) => println!(rt; "{reply}")?,
             Err(refusal) => println!(rt; "{refusal}")?,
         }
     }
     Ok(())
+}
+
+/// A line without what ends it: a line feed, or a carriage return and a line feed.
+fn without_end(text: &str) -> &str {
+    match text.strip_suffix('\n') {
+        Some(line) => line.strip_suffix('\r').unwrap_or(line),
+        None => text,
+    }
 }

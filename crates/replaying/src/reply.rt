@@ -1,9 +1,11 @@
 //! What a line is answered, as the original's driver writes it.
 
-use crate::shape::Shape;
+use crate::tables::DeskTables;
 use calls::calls::Answer;
+use node::nodes::NodeRef;
 use order::blend::BlendNumber;
 use std::fmt;
+use walk::walks::Walk;
 
 /// What a call on books of blends answers.
 pub type BlendAnswer = Answer<BlendNumber, u32>;
@@ -13,11 +15,14 @@ pub type BlendAnswer = Answer<BlendNumber, u32>;
 pub enum Reply<'a> {
     Answer(BlendAnswer),
     Bare,
-    Tree(Shape<'a>),
+    Tree {
+        tables: &'a DeskTables,
+        root: NodeRef,
+    },
     /// How many entries are left, and what of the tree, if the walk has nodes.
     Walk {
-        left: usize,
-        shape: Option<Shape<'a>>,
+        tables: &'a DeskTables,
+        walk: Walk,
     },
     /// How many nodes are out, of two callers those of the one that is served.
     Out(u16),
@@ -30,12 +35,11 @@ impl fmt::Display for Reply<'_> {
         match self {
             Reply::Answer(answer) => write_answer(f, *answer),
             Reply::Bare => write!(f, "bare"),
-            Reply::Tree(shape) => write!(f, "{shape}"),
-            Reply::Walk { left, shape: None } => write!(f, "walk {left} bare"),
-            Reply::Walk {
-                left,
-                shape: Some(shape),
-            } => write!(f, "walk {left} {shape}"),
+            Reply::Tree { tables, root } => write!(f, "{}", tables.tree_shape(*root)),
+            Reply::Walk { tables, walk } => match tables.walk_shape(*walk) {
+                Some(shape) => write!(f, "walk {} {shape}", walk.left),
+                None => write!(f, "walk {} bare", walk.left),
+            },
             Reply::Out(count) => write!(f, "{count}"),
             Reply::Turned => write!(f, "turned"),
         }

@@ -51,31 +51,24 @@ impl FromStr for Line {
 
     /// A letter, and up to three numbers, each behind a blank: 0 for those that are not there. Blanks may follow.
     fn from_str(line: &str) -> Result<Line, NoLine> {
-        let mut fields = line.split(' ');
-        let name = fields.next();
-        let mut numbers = [0; 3];
-        for (number, field) in numbers.iter_mut().zip(&mut fields) {
-            *number = number_in(field)?;
-        }
-        if !fields.all(|field| field.is_empty()) {
+        let [name, fields @ ..] = line.as_bytes() else {
             return Err(NoLine);
-        }
-        let [first, second, third] = numbers;
+        };
+        let [first, second, third] = numbers_in(fields)?;
         let place = first as usize;
-        match name {
-            Some("s") => Ok(Line::Shape { place }),
-            Some("f") => Ok(Line::Out),
-            Some("C") => Ok(Line::ByDecade(Call::Cut {
+        match *name {
+            b's' => Ok(Line::Shape { place }),
+            b'f' => Ok(Line::Out),
+            b'C' => Ok(Line::ByDecade(Call::Cut {
                 place,
                 other: second as usize,
                 query: Decade { tens: third },
             })),
-            Some("m") => Ok(Line::ByDecade(Call::Least {
+            b'm' => Ok(Line::ByDecade(Call::Least {
                 place,
                 query: Decade { tens: second },
             })),
-            Some(name) => call_named(name, place, second, third).map(Line::Call),
-            None => Err(NoLine),
+            name => call_named(name, place, second, third).map(Line::Call),
         }
     }
 }
@@ -87,7 +80,7 @@ impl FromStr for SharedLine {
     fn from_str(line: &str) -> Result<SharedLine, NoLine> {
         match line.strip_prefix("t ") {
             Some(digits) => Ok(SharedLine::Turn {
-                caller: u16::try_from(number_in(digits)?).unwrap_or(u16::MAX),
+                caller: u16::try_from(number_in(digits.as_bytes())?).unwrap_or(u16::MAX),
             }),
             None => line.parse::<Line>().map(SharedLine::Served),
         }
@@ -95,45 +88,64 @@ impl FromStr for SharedLine {
 }
 
 /// The call of a letter on a place, with two more numbers.
-fn call_named(name: &str, place: usize, second: u32, third: u32) -> Result<BlendCall, NoLine> {
+fn call_named(name: u8, place: usize, second: u32, third: u32) -> Result<BlendCall, NoLine> {
     match name {
-        "p" => Ok(Call::Insert {
+        b'p' => Ok(Call::Insert {
             place,
             key: BlendNumber::from(second),
             value: third,
         }),
-        "g" => Ok(Call::Lookup {
+        b'g' => Ok(Call::Lookup {
             place,
             query: BlendNumber::from(second),
         }),
-        "c" => Ok(Call::Cut {
+        b'c' => Ok(Call::Cut {
             place,
             other: second as usize,
             query: BlendNumber::from(third),
         }),
-        "w" => Ok(Call::Open { place }),
-        "n" => Ok(Call::Step {
+        b'w' => Ok(Call::Open { place }),
+        b'n' => Ok(Call::Step {
             place,
             side: Side::First,
         }),
-        "b" => Ok(Call::Step {
+        b'b' => Ok(Call::Step {
             place,
             side: Side::Last,
         }),
-        "e" => Ok(Call::Close { place }),
-        "r" => Ok(Call::Release { place }),
-        "l" => Ok(Call::Count { place }),
-        "a" => Ok(Call::Audit),
+        b'e' => Ok(Call::Close { place }),
+        b'r' => Ok(Call::Release { place }),
+        b'l' => Ok(Call::Count { place }),
+        b'a' => Ok(Call::Audit),
         _ => Err(NoLine),
     }
 }
 
 /// The number that some digits spell: 0 for none, and the greatest where it is too great.
-fn number_in(digits: &str) -> Result<u32, NoLine> {
-    let mut number = 0u32;
-    for c in digits.chars() {
-        let digit = c.to_digit(10).ok_or(NoLine)?;
-        number = number.saturating_mul(10).saturating_add(digit);
+fn number_in(digits: &[u8]) -> Result<u32, NoLine> {
+    digits
+        .iter()
+        .try_fold(0, |number, byte| with_digit(number, *byte))
+}
+
+/// A number with one more digit behind it.
+fn with_digit(number: u32, byte: u8) -> Result<u32, NoLine> {
+    let digit = char::from(byte).to_digit(10).ok_or(NoLine)?;
+    Ok(number.saturating_mul(10).saturating_add(digit))
+}
+
+/// The numbers of up to three fields, each behind a blank.
+fn numbers_in(fields: &[u8]) -> Result<[u32; 3], NoLine> {
+    let mut numbers = [0; 3];
+    let mut blanks = 0usize;
+    for byte in fields {
+        if *byte == b' ' {
+            blanks = blanks.saturating_add(1);
+            continue;
+        }
+        let field = blanks.checked_sub(1).ok_or(NoLine)?;
+        let number = numbers.get_mut(field).ok_or(NoLine)?;
+        *number = with_digit(*number, *byte)?;
     }
-    Ok(number)
+    Ok(numbers)
 }

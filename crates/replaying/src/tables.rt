@@ -10,6 +10,7 @@ use bank::bank::Bank;
 use books::places::Place;
 use calls::refusals::Refusal;
 use node::head::{CAPACITY, Head};
+use node::nodes::NodeRef;
 use order::blend::BlendNumber;
 use std::alloc::Global;
 use supply::Supply;
@@ -44,8 +45,18 @@ impl DeskTables {
         })
     }
 
+    /// A tree as it is written.
+    pub fn tree_shape(&self, root: NodeRef) -> Shape<'_> {
+        Shape {
+            heads: self.heads.as_slice(),
+            keys: self.keys.as_slice(),
+            root,
+            ends: None,
+        }
+    }
+
     /// What is left of a tree between the ends of a walk, if the walk has nodes.
-    fn walk_shape(&self, walk: Walk) -> Option<Shape<'_>> {
+    pub fn walk_shape(&self, walk: Walk) -> Option<Shape<'_>> {
         let heads = self.heads.as_slice();
         let ends = Ends::of(heads, walk);
         Some(Shape {
@@ -62,16 +73,8 @@ impl DeskTables {
     {
         Ok(match bank.place(place).ok_or(Refusal::Place)? {
             Place::Bare => Reply::Bare,
-            Place::Tree { root, .. } => Reply::Tree(Shape {
-                heads: self.heads.as_slice(),
-                keys: self.keys.as_slice(),
-                root,
-                ends: None,
-            }),
-            Place::Walk(walk) => Reply::Walk {
-                left: walk.left,
-                shape: self.walk_shape(walk),
-            },
+            Place::Tree { root, .. } => Reply::Tree { tables: self, root },
+            Place::Walk(walk) => Reply::Walk { tables: self, walk },
         })
     }
 }
