@@ -83,6 +83,18 @@ module _ {K V : Type 0} (T T₁ T₂ : Tables K V) (S S' : Stock) (h m : ℕ) (e
         },
       )
 
+-- the same calls in the words of the trees
+pub crown_call : {K V : Type 0} (H G : List Head) (ks : List K) (vs : List V) (T₂ : Tables K V) (h m : ℕ) (e : K × V) (r : Result (Unit {0}) Fault) (l y : Tree (K × V)) (a b : ℕ) → number l ≡ a → number y ≡ b
+    → G ≡ push_level H a m → InsertsIn (tables G ks vs) T₂ (h + 1) m 0 e b r → InsertsIn (tables (push_level H (number l) m) ks vs) T₂ (suc h) m 0 e (number y) r
+crown_call H G ks vs T₂ h m e r l y a b p q s did =
+    subst (λ k. InsertsIn (tables (push_level H (number l) m) ks vs) T₂ k m 0 e (number y) r) (let z : h + 1 ≡ suc h = omega arith in z)
+    (subst (λ n. InsertsIn (tables (push_level H (number l) m) ks vs) T₂ (h + 1) m 0 e n r) (sym q)
+    (subst (λ hs. InsertsIn (tables hs ks vs) T₂ (h + 1) m 0 e b r) (s ∙ ap (λ n. push_level H n m) (sym p)) did))
+
+pub first_call : {K V : Type 0} (H G : List Head) (ks : List K) (vs : List V) (T₂ : Tables K V) (m : ℕ) (e : K × V) (r : Result (Unit {0}) Fault)
+    → G ≡ new_leaf H m → InsertsIn (tables G ks vs) T₂ 0 m 0 e 0 r → InsertsIn (tables (new_leaf H m) ks vs) T₂ 0 m 0 e 0 r
+first_call H G ks vs T₂ m e r s did = subst (λ hs. InsertsIn (tables hs ks vs) T₂ 0 m 0 e 0 r) s did
+
 -- a new leaf
 module _ {K V : Type 0} (H : List Head) (ks : List K) (vs : List V) {G : List Head} (T₂ : Tables K V) (S S' : Stock) (m : ℕ) (e : K × V) (r : Result (Unit {0}) Fault) (given : Given S S' m)
     (sized : Sized (tables H ks vs)) (made : (m < length H) × (G ≡ new_leaf H m)) (did : InsertsIn (tables G ks vs) T₂ 0 m 0 e 0 r) where
@@ -95,7 +107,7 @@ module _ {K V : Type 0} (H : List Head) (ks : List K) (vs : List V) {G : List He
         linked = λ j l. absurd (omega arith);
         all = All-nil (Holds (tables (new_leaf H m) ks vs) (0 - 1));
       })
-      (All-nil (Holds (tables (new_leaf H m) ks vs) (0 - 1))) (record { leaf = λ z. refl; inner = λ z. absurd (omega arith) }) (subst (λ hs. InsertsIn (tables hs ks vs) T₂ 0 m 0 e 0 r) made.1 did)
+      (All-nil (Holds (tables (new_leaf H m) ks vs) (0 - 1))) (record { leaf = λ z. refl; inner = λ z. absurd (omega arith) }) (first_call H G ks vs T₂ m e r made.1 did)
 
 -- a root above two trees
 module _ {K V : Type 0} (H : List Head) (ks : List K) (vs : List V) (T₂ : Tables K V) (S S' : Stock) (h m : ℕ) (e : K × V) (r : Result (Unit {0}) Fault) (l y : Tree (K × V)) {a b : ℕ} {G : List Head} (given : Given S S' m)
@@ -120,12 +132,8 @@ module _ {K V : Type 0} (H : List Head) (ks : List K) (vs : List V) (T₂ : Tabl
   room : 0 < length (head_in H m).edges
   room = pushed.3
 
-  -- the call in the words of the trees
   did : InsertsIn T₁ T₂ (suc h) m 0 e (number y) r
-  did =
-      subst (λ k. InsertsIn T₁ T₂ k m 0 e (number y) r) (let z : h + 1 ≡ suc h = omega arith in z)
-      (subst (λ n. InsertsIn T₁ T₂ (h + 1) m 0 e n r) (sym at_y)
-      (subst (λ hs. InsertsIn (tables hs ks vs) T₂ (h + 1) m 0 e b r) (pushed.4 ∙ ap (λ n. push_level H n m) (sym at-l)) call))
+  did = crown_call H G ks vs T₂ h m e r l y a b at-l at_y pushed.4 call
 
   made : Changed T T₁ (m ∷ []) (m ∷ number l ∷ [])
   made = push_changed H ks vs m inside (number l) left_in other room

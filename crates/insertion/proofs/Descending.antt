@@ -129,8 +129,12 @@ module _ {K V : Type 0} (T T₁ : Tables K V) (S : Stock) (h : ℕ) (t : Tree (K
   pub sum : (x : ℕ) → occurs x h t ≡ same x (number t) + (occ x (take i ks) + (occurs x (h - 1) (kid t i) + occ x (drop (suc i) ks)))
   sum x = omega (arith, occurs_at x h t up, total_around (occurs x (h - 1)) ks i (node 0 [] none) l)
 
-  pub root_apart : occurs (number t) (h - 1) (kid t i) < guard S (number t)
+  pub root_apart : occurs (number t) (h - 1) (kid t i) < mark S (number t)
   root_apart = omega (arith, sum (number t), same_self (number t), owns.owned (number t), mark_most S (number t))
+
+  -- the same with what is barred
+  root_guarded : occurs (number t) (h - 1) (kid t i) < guard S (number t)
+  root_guarded = omega (arith, root_apart)
 
   tops_linked : (x : ℕ) → 0 < times x (numbers t) → SameLink T T₁ x
   tops_linked x p = go (eqb x (number (kid t i))) refl
@@ -157,7 +161,7 @@ module _ {K V : Type 0} (T T₁ : Tables K V) (S : Stock) (h : ℕ) (t : Tree (K
   beside_root = beside_more T T₁ S (λ x. occurs x (h - 1) (kid t i)) (λ x. occurs x h t) (λ x. omega (arith, sum x)) b
 
   pub link_root : SameLink T T₁ (number t)
-  link_root = b.links (number t) root_apart
+  link_root = b.links (number t) root_guarded
 
   module _ (k : Tree (K × V)) (v : Holds T₁ (h - 1) k) (e : number k ≡ number (kid t i)) where
     abbrev new : List (Tree (K × V))
@@ -176,7 +180,7 @@ module _ {K V : Type 0} (T T₁ : Tables K V) (S : Stock) (h : ℕ) (t : Tree (K
 
     pub reseat : Held T₁ h (number t) (row t) new
     reseat = record {
-      body = subst (λ ns. Node T₁ (number t) (row t) ns) same_numbers (node_same T T₁ (number t) (row t) (numbers t) b.heads_len (b.bodies (number t) root_apart) w.body);
+      body = subst (λ ns. Node T₁ (number t) (row t) ns) same_numbers (node_same T T₁ (number t) (row t) (numbers t) b.heads_len (b.bodies (number t) root_guarded) w.body);
       fan = record { leaf = λ z. absurd (omega arith); inner = λ z. omega (arith, long, w.fan.inner z) };
       linked = subst (λ ns. Linked T₁ (number t) 0 ns) same_numbers (linked_same T T₁ (number t) 0 (numbers t) tops_linked w.linked);
       all = All-append (Holds T₁ (h - 1)) (take i ks) (k ∷ drop (suc i) ks)

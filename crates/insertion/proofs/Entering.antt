@@ -28,6 +28,10 @@ replaced_not_fit x e = let z : ◌≡◌ {A = ℕ} 0 1 = cc in omega arith
 replaced_same : {K V : Type 0} (x y : V) → ◌≡◌ {A = InsertResult K V} (Replaced x) (Replaced y) → x ≡ y
 replaced_same x y e = cc
 
+-- a root by the number of its tree
+pub root_is : {K V : Type 0} (T : Tables K V) {m : ℕ} (t : Tree (K × V)) → number t ≡ m → Rooted T m → Rooted T (number t)
+root_is T t e r = subst (Rooted T) (sym e) r
+
 module _ {K V : Type 0} (place : (K × V) → Ordering) (T T₁ : Tables K V) (S S₁ : Stock) (n : NodeRef) (e : K × V) (t : Tree (K × V)) (owns : Owns T S n.height t) (at-m : number t ≡ n.node)
     (root : Rooted T n.node) where
   abbrev h : ℕ
@@ -48,7 +52,7 @@ module _ {K V : Type 0} (place : (K × V) → Ordering) (T T₁ : Tables K V) (S
   fitted k fresh r q w = (
     subst (λ g. Planted T T₁ S S₁ f (planted 0 h g) (need b h t)) (sym q) (record {
       held = w.held;
-      root = ap (λ x. head_parent x) w.stem_is ∙ w.link.parent_same ∙ subst (Rooted T) (sym at-m) root;
+      root = ap (λ x. head_parent x) w.stem_is ∙ w.link.parent_same ∙ root_is T t at-m root;
       balance = w.balance;
       beside = w.beside;
       taken = w.taken ∙ ap (λ n. S₁.allowance + n) (sym same_need);
@@ -142,3 +146,7 @@ module _ {K V : Type 0} (place : (K × V) → Ordering) (T T₁ : Tables K V) (S
         declined = λ s l. absurd (err_not_ok _ _ (sym (d.declined s l).0 ∙ p));
         granted = λ s l. let q = d.granted s l in absurd (err_not_ok _ _ (sym z ∙ (rooted q.0 (grow q.0 b e h t) refl q.1 l).1));
       }
+
+-- a root put above two trees, of which the left one has another name
+pub crowns_at : {K V : Type 0} (T T' : Tables K V) (S S' : Stock) (h m n c : ℕ) (x : K × V) (r : Result NodeRef Fault) → n ≡ m → Crowns T T' S S' h m x c r → Crowns T T' S S' h n x c r
+crowns_at T T' S S' h m n c x r e w = subst (λ k. Crowns T T' S S' h k x c r) (sym e) w

@@ -1,6 +1,7 @@
 -- An entry put into a node with its children, which is split where it is full. Assumes nothing.
 use Rattle.node.proofs.Weaves.{all_front, all_back}
-use Rattle.std.proofs.Common.{◌≡◌, ℕ, ◌+◌, ◌-◌, ◌<◌, ◌≤◌, List, [], ◌∷◌, ◌++◌, map, length, Ok, All, Result, sym, ap, ◌∙◌, subst, arith, length-append}
+use Rattle.std.proofs.Common.{◌≡◌, ℕ, ◌+◌, ◌-◌, ◌<◌, ◌≤◌, cond, List, [], ◌∷◌, ◌++◌, map, length, Ok, All, Result, sym, ap, ◌∙◌, subst, arith, length-append}
+use Rattle.std.specs.Prelude.{nat_lt}
 use lib.ListN.{length-map}
 use Rattle.std.proofs.lemmas.List.{map-append}
 use Rattle.std.proofs.lemmas.List.Elements.{All-append}
@@ -15,6 +16,10 @@ use Rattle.node.proofs.Numbers.{tops_occur}
 use Rattle.rules.specs.Held.{Held}
 use Rattle.rules.proofs.Branches.{tops_parts, tops_inside}
 use Rattle.map.specs.Inserts.{Edges, InsertsIn, InsertsLeft, InsertsRight}
+
+-- how many nodes it takes to put an entry into a node with these
+abbrev pub cost : {E : Type 0} → List E → ℕ
+cost es = cond (nat_lt (length es) 11) 0 1
 
 times_same : (x m : ℕ) → times x (m ∷ []) ≡ same x m
 times_same x m = omega arith

@@ -1,6 +1,6 @@
 -- Lookup in one node, and down from it. Assumes nothing.
 use Rattle.rules.proofs.Searches.{first_map, found_map, made_map, first_within, found_within}
-use Rattle.std.proofs.Common.{◌≡◌, ℕ, zero, suc, ◌+◌, ◌-◌, ◌*◌, ◌<◌, ◌≤◌, Bool, true, false, cond, List, [], ◌∷◌, ◌++◌, map, length, get_or, take, drop, Some, None, Ordering, sym, refl, ap, ◌∙◌, subst, ap₂, arith}
+use Rattle.std.proofs.Common.{◌≡◌, ℕ, zero, suc, ◌+◌, ◌-◌, ◌*◌, ◌<◌, ◌≤◌, Bool, true, false, cond, List, [], ◌∷◌, ◌++◌, map, length, get_or, take, drop, Some, None, Ok, Result, Ordering, sym, refl, ap, ◌∙◌, subst, ap₂, arith}
 use lib.ListN.{length-map}
 use lib.Seq.{split_at}
 use Rattle.std.proofs.lemmas.List.{length-take-le, get_or-map}
@@ -158,6 +158,10 @@ child_under place T n inner x i made t w at v e f node-is height-is =
       b.0 ∙ ap (λ h. value_of (seek (λ e. place (first e)) h (kid t i))) (sym z),
       b.1 ∙ ap (λ h. made + looks (λ e. place (first e)) h (kid t i)) (sym z),
     )
+
+-- the answer of a child, with the comparisons made above it
+pub answer_below : {X E : Type 0} (v x y : X) (b c m n : ℕ) → ◌≡◌ {A = X × ℕ} (v, b) (x, m) → y ≡ x → n ≡ c + m → ◌≡◌ {A = Result (X × ℕ) E} (Ok (v, c + b)) (Ok (y, n))
+answer_below v x y b c m n r p q = ap (λ a. Ok (a.0, c + a.1)) r ∙ ap₂ (λ a k. Ok (a, k)) (sym p) (sym q)
 
 -- ---- on the way down
 

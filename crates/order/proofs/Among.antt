@@ -1,7 +1,8 @@
 -- What follows from the laws of an order and of a query. Assumes nothing.
 --     below_later, above_earlier, same_place     a query beside two keys
 --     below_after, above_before                  the same for a query that stands at one place
---     stopped_parted, stopped_strict             what a search that stopped says of a rising row
+--     stopped_first, stopped_found, stopped_made      what a search that stopped says, of any row and whatever the query
+--     stopped_parted, stopped_strict             what it says of a rising row
 --     told                                       all that it says
 use Rattle.std.specs.Prelude.{◌≡◌, ℕ, zero, suc, ◌+◌, ◌<◌, ◌≤◌, min, Bool, true, false, List, [], ◌∷◌, length, ◌≢◌, slice_index_or}
 use Rattle.std.specs.declared.cmp.Ordering.TheVariants.{Less, Equal, Greater}
@@ -119,6 +120,19 @@ computed place (x ∷ xs) (suc i) f r =
     let c = m.made in
     record { first = grind arith; found = grind arith; made = grind arith }
 
+module _ {K Q : Type 0} (places : Q → K → Ordering) (keys : List K) (q : Q) (i : ℕ) (f : Bool) (r : Stopped places keys q i f) where
+  all : Computed (places q) keys i f
+  all = computed (places q) keys i f (record { within = r.within; before = r.before; stops = r.stops; same = r.same; past = r.past })
+
+  pub stopped_first : i ≡ first_not_below (places q) keys
+  stopped_first = all.first
+
+  pub stopped_found : f ≡ found_at (places q) keys
+  stopped_found = all.found
+
+  pub stopped_made : comparisons (places q) keys ≡ min (i + 1) (length keys)
+  stopped_made = all.made
+
 -- all that a search says
 pub record Told {K Q : Type 0} (cmp : K → K → Ordering) (places : Q → K → Ordering) (keys : List K) (q : Q) (i : ℕ) (f : Bool) : Type 0 where
   pub first : i ≡ first_not_below (places q) keys
@@ -135,11 +149,10 @@ at_most Greater e = λ n. cc
 
 pub told : {K Q : Type 0} {cmp : K → K → Ordering} {places : Q → K → Ordering} → Placed cmp places → (keys : List K) (q : Q) (i : ℕ) (f : Bool) → Stopped places keys q i f → Told cmp places keys q i f
 told {places} p keys q i f r =
-    let m = computed (places q) keys i f (record { within = r.within; before = r.before; stops = r.stops; same = r.same; past = r.past }) in
     record {
-      first = m.first;
-      found = m.found;
-      made = m.made;
+      first = stopped_first places keys q i f r;
+      found = stopped_found places keys q i f r;
+      made = stopped_made places keys q i f r;
       stopped = r;
       parted = stopped_parted p keys q i f r;
       strict = λ s. stopped_strict p s keys q i f r;

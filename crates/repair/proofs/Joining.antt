@@ -1,5 +1,6 @@
 -- What is done with two neighbours, by their lengths. Assumes nothing.
-use Rattle.std.proofs.Common.{◌≡◌, ℕ, suc, ◌+◌, ◌-◌, ◌<◌, ◌≤◌, cond, ltb, leb, List, ◌∷◌, ◌++◌, map, length, Some, None, Ok, Err, Option, Result, sym, refl, ap, ◌∙◌, subst, ap₂, ◌⊎◌, inl, inr, ⊎_elim, arith}
+use Rattle.std.proofs.Common.{◌≡◌, ℕ, suc, ◌+◌, ◌-◌, ◌<◌, ◌≤◌, Bool, true, false, cond, ltb, leb, List, ◌∷◌, ◌++◌, map, length, Some, None, Ok, Err, Option, Result, sym, refl, ap, ◌∙◌, subst, ap₂, ◌⊎◌, inl, inr, ⊎_elim, arith}
+use lib.ListN.{length-map}
 use Rattle.std.proofs.lemmas.Bool.{cond-true, cond-false, cond_both, lt-ltb, le-ltb, le-leb, lt-leb, ltb-true, ltb-false, leb-true, leb-false}
 use Rattle.std.proofs.lemmas.Option.{none-some}
 use Rattle.supply.specs.declared.faults.Fault.{Fault}
@@ -8,19 +9,21 @@ use Rattle.node.specs.declared.choice.Choice.{Choice}
 use Rattle.node.specs.declared.choice.Choice.TheVariants.{Merge, Move, Leave}
 use Rattle.node.specs.declared.ends.Side.{Side}
 use Rattle.node.specs.declared.ends.Side.TheVariants.{First, Last}
+use Rattle.node.specs.Links.{edge}
 use Rattle.node.specs.Shape.{Tree, number, row, kids, mk}
-use Rattle.node.specs.Store.{Tables}
-use Rattle.node.specs.Operations.{Merges, StealsLeft, StealsRight}
+use Rattle.node.specs.Store.{Tables, Node, head_at}
+use Rattle.node.specs.Operations.{Strange, CanMerge, Merges, StealsLeft, StealsRight}
 use Rattle.node.specs.Neighbours.{Steals, merge_answer, steal_answer, JoinsAs, JoinsChildren}
 use Rattle.node.specs.Rules.{whole, parted, at_side, merged, moved, chosen, joint}
 use Rattle.node.specs.Balance.{mark}
 use Rattle.node.proofs.Balances.{mark_unused}
 use Rattle.node.proofs.Frames.{height_suc}
 use Rattle.node.proofs.Numbers.{same_self}
-use Rattle.node.proofs.Tabled.{ok_same, err_not_ok}
+use Rattle.node.proofs.Runs.{edge_is}
+use Rattle.node.proofs.Tabled.{ok_same, err_not_ok, not_strange}
 use Rattle.repair.specs.Joint.{border, Neighbours, Joined}
 use Rattle.repair.proofs.Becoming.{became_none}
-use Rattle.repair.proofs.Pairs.{held_l_lem, held_r, pairs, sum, merge_done, merge_became, merge_link, left_done, left_became, left_link, right_done, right_became, right_link}
+use Rattle.repair.proofs.Pairs.{body, held_l_lem, held_r, pairs, sum, merge_done, merge_became, merge_link, left_done, left_became, left_link, right_done, right_became, right_link}
 
 -- ---- the rule
 
@@ -45,6 +48,23 @@ module _ {E : Type 0} (s : Side) (l : Tree E) (e : E) (r : Tree E) where
 
 module _ {K V : Type 0} (T : Tables K V) (S : Stock) (h p i : ℕ) (us : List (K × V)) (e : K × V) (ws : List (K × V)) (A : List (Tree (K × V))) (l r : Tree (K × V)) (B : List (Tree (K × V)))
     (w : Neighbours T S (suc h) p i us e ws A l r B) where
+  next_node : (s : Side) → Node T (number (at_side s l r)) (row (at_side s l r)) (map number (kids (at_side s l r)))
+  next_node First = (held_l_lem T S h p i us e ws A l r B w).body
+  next_node Last = (held_r T S h p i us e ws A l r B w).body
+
+  next_edge : (s : Side) → edge T.heads p (at_side s i (i + 1)) ≡ number (at_side s l r)
+  next_edge First =
+      edge_is (head_at T p).edges (map number A) (number l ∷ number r ∷ map number B) i 0 i (body T S h p i us e ws A l r B w).edges_are (length-map A number ∙ w.edges_here) (omega arith) (omega arith)
+  next_edge Last =
+      edge_is (head_at T p).edges (map number A) (number l ∷ number r ∷ map number B) i 1 (i + 1) (body T S h p i us e ws A l r B w).edges_are (length-map A number ∙ w.edges_here) (omega arith) (omega arith)
+
+  next_length : (s : Side) → length (row (at_side s l r)) ≡ at_side s (length (row l)) (length (row r))
+  next_length First = refl
+  next_length Last = refl
+
+  inside : p < length T.heads
+  inside = (body T S h p i us e ws A l r B w).inside
+
   few : (length (row l) ≤ 11) × (length (row r) ≤ 11)
   few = ((held_l_lem T S h p i us e ws A l r B w).body.few, (held_r T S h p i us e ws A l r B w).body.few)
 
@@ -90,12 +110,78 @@ module _ {K V : Type 0} (T : Tables K V) (S : Stock) (h p i : ℕ) (us : List (K
         at_border First = refl
         at_border Last = refl
 
+-- ---- the one at the border, by its edge
+
+module _ {K V : Type 0} (s : Side) (T : Tables K V) (h p i : ℕ) where
+  -- what is asked, at a height above 0
+  lowered : (S : Stock) (us : List (K × V)) (e : K × V) (ws : List (K × V)) (A : List (Tree (K × V))) (l r : Tree (K × V)) (B : List (Tree (K × V)))
+      → Neighbours T S h p i us e ws A l r B → Neighbours T S (suc (h - 1)) p i us e ws A l r B
+  lowered S us e ws A l r B w = subst (λ k. Neighbours T S k p i us e ws A l r B) (height_suc h w.above) w
+
+  module _ (S : Stock) (us : List (K × V)) (e : K × V) (ws : List (K × V)) (A : List (Tree (K × V))) (l r : Tree (K × V)) (B : List (Tree (K × V))) (w : Neighbours T S h p i us e ws A l r B) where
+    w' : Neighbours T S (suc (h - 1)) p i us e ws A l r B
+    w' = lowered S us e ws A l r B w
+
+    pub no_edge : i < 11 → (j : ℕ) → j ≡ at_side s i (i + 1) → (p < length T.heads → j < 12 → ⊥) → ⊥
+    no_edge small j at f = f (inside T S (h - 1) p i us e ws A l r B w') (low s at)
+      where
+        low : (s : Side) → j ≡ at_side s i (i + 1) → j < 12
+        low First q = omega arith
+        low Last q = omega arith
+
+    -- the border child as the code reads it
+    module _ (j child len : ℕ) (at_j : j ≡ at_side s i (i + 1)) (at : child ≡ edge T.heads p j) where
+      is_next : child ≡ number (at_side s l r)
+      is_next = at ∙ ap (edge T.heads p) at_j ∙ next_edge T S (h - 1) p i us e ws A l r B w' s
+
+      pub no_length : Strange T child → ⊥
+      no_length z =
+          not_strange T (number (at_side s l r)) (row (at_side s l r)) (map number (kids (at_side s l r))) w.owns.sized (next_node T S (h - 1) p i us e ws A l r B w' s) (subst (Strange T) is_next z)
+
+      module _ (here : (head_at T child).len ≡ len) (more : 11 < length (row l) + length (row r) + 1) where
+        is_length : at_side s (length (row l)) (length (row r)) ≡ len
+        is_length =
+            sym (next_length T S (h - 1) p i us e ws A l r B w' s) ∙ sym (next_node T S (h - 1) p i us e ws A l r B w' s).len_is ∙ sym (ap (λ c. (head_at T c).len) is_next) ∙ here
+
+        back : (T' : Tables K V) (n : ℕ) → child ≡ n → Joined s T T' S S (suc (h - 1)) p us e ws A l r B (joint s l e r) (Ok n) → Joined s T T' S S h p us e ws A l r B (joint s l e r) (Ok child)
+        back T' n z v =
+            subst (λ k. Joined s T T' S S k p us e ws A l r B (joint s l e r) (Ok child)) (sym (height_suc h w.above))
+            (subst (λ m. Joined s T T' S S (suc (h - 1)) p us e ws A l r B (joint s l e r) (Ok m)) (sym z) v)
+
+        pub raised_none : 6 ≤ len → Joined s T T S S h p us e ws A l r B (joint s l e r) (Ok child)
+        raised_none q = back T (number (at_side s l r)) is_next (left_as_is T S (h - 1) p i us e ws A l r B w' more s (omega (arith, is_length)))
+
+        raised_some : len < 6 → (T' : Tables K V) (res : Result (Unit {0}) Fault) → Steals s T T' h p i (6 - len) res
+            → (res ≡ Ok tt) × Joined s T T' S S h p us e ws A l r B (joint s l e r) (Ok child)
+        raised_some q T' res did =
+            let d =
+            from_side T S (h - 1) p i us e ws A l r B w' more T' res s (omega (arith, is_length))
+            (subst (λ k. Steals s T T' k p i (6 - at_side s (length (row l)) (length (row r))) res) (height_suc h w.above)
+            (subst (λ n. Steals s T T' h p i (6 - n) res) (sym is_length) did)) in
+            (d.0, back T' (number (at_side s l r)) is_next d.1)
+
+        pub raised_right : len < 6 → (T' : Tables K V) (res : Result (Unit {0}) Fault) → s ≡ First → StealsRight T T' h p i (6 - len) res → (res ≡ Ok tt) × Joined s T T' S S h p us e ws A l r B (joint s l e r) (Ok child)
+        raised_right q T' res is did = raised_some q T' res (subst (λ z. Steals z T T' h p i (6 - len) res) (sym is) did)
+
+        pub raised_left : len < 6 → (T' : Tables K V) (res : Result (Unit {0}) Fault) → s ≡ Last → StealsLeft T T' h p i (6 - len) res → (res ≡ Ok tt) × Joined s T T' S S h p us e ws A l r B (joint s l e r) (Ok child)
+        raised_left q T' res is did = raised_some q T' res (subst (λ z. Steals z T T' h p i (6 - len) res) (sym is) did)
+
 -- ---- merged, or raised
 
 module _ {K V : Type 0} (s : Side) (T : Tables K V) (S : Stock) (h p i : ℕ) (us : List (K × V)) (e : K × V) (ws : List (K × V)) (A : List (Tree (K × V))) (l r : Tree (K × V)) (B : List (Tree (K × V)))
     (w : Neighbours T S h p i us e ws A l r B) where
   v : Neighbours T S (suc (h - 1)) p i us e ws A l r B
   v = subst (λ k. Neighbours T S k p i us e ws A l r B) (height_suc h w.above) w
+
+  pub tells_fit : (res : Result Bool Fault) → CanMerge T p i res → res ≡ Ok (leb (length (row l) + length (row r) + 1) 11)
+  unfolding CanMerge
+  tells_fit res c = c (number l) (number r) us e ws (row l) (row r) (map number A) (map number B) (map number (kids l)) (map number (kids r)) w.owns.sized (pairs T S (h - 1) p i us e ws A l r B v)
+
+  pub fits_in : (b : Bool) → CanMerge T p i (Ok b) → b ≡ true → length (row l) + length (row r) + 1 ≤ 11
+  fits_in b c z = leb-true (length (row l) + length (row r) + 1) 11 (sym (ok_same _ _ (tells_fit (Ok b) c)) ∙ z)
+
+  pub fits_not : (b : Bool) → CanMerge T p i (Ok b) → b ≡ false → 11 < length (row l) + length (row r) + 1
+  fits_not b c z = leb-false (length (row l) + length (row r) + 1) 11 (sym (ok_same _ _ (tells_fit (Ok b) c)) ∙ z)
 
   module _ (fit : length (row l) + length (row r) + 1 ≤ 11) (T' : Tables K V) (res : Result (ℕ × ℕ) Fault) (did : Merges T T' h p i res) where
     did' : Merges T T' (suc (h - 1)) p i res

@@ -7,7 +7,7 @@ use Rattle.std.proofs.lemmas.List.Sums.{sum_by-take-drop}
 use Rattle.std.proofs.lemmas.List.{get_or-take, drop-set-lt, length-take-le, take-replicate, drop-replicate}
 use Rattle.std.proofs.lemmas.Nat.{one_shl}
 use Rattle.std.proofs.lemmas.Bool.{not-false, not-true, cases_lt}
-use Rattle.supply.specs.Stocks.{marked, counted, fresh, Given, Returned}
+use Rattle.supply.specs.Stocks.{is_out, marked, counted, fresh, Given, Returned}
 use Rattle.supply.specs.Words.{digits, spread, bit_stock}
 use Rattle.supply.proofs.StockLaws.{out_within, counted_given, counted_returned, counted_fresh, all_marked, none_marked}
 use Rattle.supply.proofs.Digits.{length_spread, index_spread, set_spread, digits_turn, digit_at, turned_digit, trailing_lowest, digits_zero, spread_zero}
@@ -60,7 +60,7 @@ full_before ws i h f k q = index_spread_at ws k (omega arith) ∙ full_digit (ge
 
 -- u is the word at i with every digit turned, and t the lowest digit that is set in it
 module _ (ws : List ℕ) (i u : ℕ) (within : i < length ws) (full : Full ws i) (turned : u + get_or ws i 0 + 1 ≡ 2 ^ 64) (some : 0 < u) where
-  lowest_within : count_trailing_zeros 64 u < 64
+  pub lowest_within : count_trailing_zeros 64 u < 64
   lowest_within = (trailing_lowest 64 u some (omega arith)).0
 
   pub lowest_here : get_or (spread ws) (i * 64 + count_trailing_zeros 64 u) false ≡ false
@@ -125,3 +125,7 @@ give_some ws ws' n n' k same f e =
     let after : take n' (spread ws') ≡ set m k false =
     ap₂ take same (e ∙ ap (λ b. set (spread ws) k (not b)) was) ∙ take-set-lt n (spread ws) k false h in
     subst (λ a. Returned (counted m) (counted a) k) (sym after) (counted_returned m k f)
+
+-- what holds of the words below a number holds of the stock
+pub lowest_out : (ws : List ℕ) (n r : ℕ) → r ≤ n → ((k : ℕ) → k < r → get_or (spread ws) k false ≡ true) → (k : ℕ) → k < r → is_out (bit_stock n ws) k ≡ true
+lowest_out ws n r h f k q = get_or-take n (spread ws) k false (omega arith) ∙ f k q

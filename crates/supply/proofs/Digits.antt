@@ -1,10 +1,10 @@
 -- Laws of the digits of words, and of words spread into a row of marks. Assumes nothing.
-use Rattle.std.proofs.Common.{◌≡◌, ℕ, zero, suc, ◌+◌, ◌-◌, ◌*◌, ◌/◌, ◌%◌, ◌^◌, ◌<◌, Bool, true, false, cond, not, eqb, List, [], ◌∷◌, ◌++◌, length, get_or, set, replicate, sym, refl, ap, ◌∙◌, ap₂, mod-lt, pow-suc, one-add, arith, lit<, length-append}
+use Rattle.std.proofs.Common.{◌≡◌, ℕ, zero, suc, ◌+◌, ◌-◌, ◌*◌, ◌/◌, ◌%◌, ◌^◌, ◌<◌, Bool, true, false, cond, not, eqb, List, [], ◌∷◌, ◌++◌, length, get_or, take, set, replicate, sym, refl, ap, ◌∙◌, ap₂, mod-lt, pow-suc, one-add, arith, lit<, length-append}
 use lib.Bits.{bit_xor, xor_shr, xor_mod, xor_zero_r}
 use lib.Count.{ones, ones_step, count_trailing_zeros, under}
 use Rattle.std.specs.List.{sum_by}
 use Rattle.std.proofs.lemmas.List.Sums.{sum_by-cons, sum_by-append, count_by-le-length}
-use Rattle.std.proofs.lemmas.List.{get_or_append_left, get_or-append_right, set-append_left, set-append_right, replicate-append-replicate}
+use Rattle.std.proofs.lemmas.List.{get_or_append_left, get_or-append_right, set-append_left, set-append_right, take_more, append_assoc, append-nil, replicate-append-replicate}
 use Rattle.std.proofs.lemmas.Nat.{shr-shr}
 use Rattle.supply.specs.Stocks.{marked}
 use Rattle.supply.specs.Words.{digits, spread}
@@ -83,6 +83,23 @@ count_digits zero n h = let z : 0 ≡ n = omega arith in ap ones z
 count_digits (suc k) n h =
     sum_by-cons (λ b. cond b 1 0) (eqb (n % 2) 1) (digits k (n / 2))
     ∙ ap₂ (λ a b. a + b) (low_one (n % 2) (mod-lt n (lit< tt))) (count_digits k (n / 2) (omega (arith, pow-suc 2 k))) ∙ sym (ones_step n)
+
+pub spread_append : (xs ys : List ℕ) → spread (xs ++ ys) ≡ spread xs ++ spread ys
+unfolding spread
+spread_append [] ys = refl
+spread_append (x ∷ xs) ys = ap (λ l. digits 64 x ++ l) (spread_append xs ys) ∙ sym (append_assoc (digits 64 x) (spread xs) (spread ys))
+
+spread_one : (w : ℕ) → spread (w ∷ []) ≡ digits 64 w
+unfolding spread
+spread_one w = append-nil (digits 64 w)
+
+-- one word more
+pub marked_more : (ws : List ℕ) (i : ℕ) → i < length ws → get_or ws i 0 < 2 ^ 64 → marked (spread (take (i + 1) ws)) ≡ marked (spread (take i ws)) + ones (get_or ws i 0)
+marked_more ws i h f =
+    ap (λ l. marked (spread l)) (take_more ws i 0 h)
+    ∙ ap marked (spread_append (take i ws) (get_or ws i 0 ∷ []) ∙ ap (λ l. spread (take i ws) ++ l) (spread_one (get_or ws i 0)))
+    ∙ sum_by-append (λ b. cond b 1 0) (spread (take i ws)) (digits 64 (get_or ws i 0))
+    ∙ ap (λ n. marked (spread (take i ws)) + n) (count_digits 64 (get_or ws i 0) f)
 
 -- the bits of words are those of each in turn
 pub marked_words : (ws : List ℕ) → ((k : ℕ) → k < length ws → get_or ws k 0 < 2 ^ 64) → marked (spread ws) ≡ sum_by ones ws

@@ -1,10 +1,12 @@
 -- The way up from the edge of a leaf. Assumes nothing.
 use Rattle.std.proofs.lemmas.Option.{none-some}
-use Rattle.std.proofs.Common.{◌≡◌, ℕ, zero, suc, ◌+◌, ◌-◌, ◌<◌, List, [], ◌∷◌, ◌++◌, Some, None, Ok, Option, Result, sym, refl, ap, ◌∙◌, subst, ap₂, arith}
+use Rattle.std.proofs.Common.{◌≡◌, ℕ, zero, suc, ◌+◌, ◌-◌, ◌<◌, ◌≤◌, List, [], ◌∷◌, ◌++◌, Some, None, Ok, Option, Result, sym, refl, ap, ◌∙◌, subst, ap₂, arith}
+use Rattle.std.proofs.lemmas.Bool.Decides.{nat_tests}
 use Rattle.supply.specs.declared.faults.Fault.{Fault}
 use Rattle.node.specs.declared.head.Head.{Head}
 use Rattle.node.specs.declared.ends.Handle.{Handle}
 use Rattle.node.specs.declared.ends.Side.{Side}
+use Rattle.node.specs.declared.ends.Side.TheVariants.{First, Last}
 use Rattle.node.specs.Store.{head_in}
 use Rattle.walk.specs.declared.climb.Spot.{Spot}
 use Rattle.walk.specs.Climbs.{spot, up, up_from, ups, beside, Edged, Past, Rises, Finds}
@@ -33,6 +35,11 @@ module _ (s : Side) (H : List Head) where
   rises_on (suc n) e w r a = (omega arith, subst (λ k. Rises s H k (up H e) w) (omega arith) (record { past = r.past.2; found = r.found }))
 
 -- ---- a search for an entry
+
+-- an entry beside an edge stands in the row
+pub beside_low : (s : Side) (len i j : ℕ) → beside s len i ≡ Some j → i ≤ len → j < len
+beside_low First len i j e l = grind (arith, nat_tests)
+beside_low Last len i j e l = grind (arith, nat_tests)
 
 module _ (s : Side) (H : List Head) where
   pub find_here : (level : ℕ) (e : Handle) (len j n m i : ℕ) → len ≡ (head_in H e.node).len → Some j ≡ beside s len e.idx → Rises s H n e (spot m i (level + n))

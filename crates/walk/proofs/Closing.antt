@@ -1,5 +1,5 @@
 -- Steps until none is left, and the nodes that remain. Assumes nothing.
-use Rattle.std.proofs.Common.{◌≡◌, ℕ, zero, suc, ◌+◌, ◌*◌, ◌<◌, ◌≤◌, Bool, true, false, List, [], ◌∷◌, ◌++◌, map, length, is_err, Some, None, Ok, Err, All, Result, sym, refl, ap, ◌∙◌, subst, ⊎_elim, arith, length-append}
+use Rattle.std.proofs.Common.{◌≡◌, ℕ, zero, suc, ◌+◌, ◌*◌, ◌<◌, ◌≤◌, Bool, true, false, List, [], ◌∷◌, ◌++◌, map, length, is_err, Some, None, Ok, Err, All, Option, Result, sym, refl, ap, ◌∙◌, subst, ⊎_elim, arith, length-append}
 use lib.ListN.{length-map}
 use Rattle.std.proofs.lemmas.List.{nil_from_length, get_or_past}
 use Rattle.std.proofs.lemmas.Result.{IfOk-from_err}
@@ -9,6 +9,7 @@ use Rattle.supply.specs.declared.faults.Fault.TheVariants.{Breach}
 use Rattle.supply.specs.Stocks.{Stock, size_of}
 use Rattle.node.specs.declared.head.Head.{Head}
 use Rattle.node.specs.declared.ends.Side.TheVariants.{First}
+use Rattle.node.specs.declared.nodes.NodeRef.{NodeRef}
 use Rattle.node.specs.Balance.{mark, Balanced}
 use Rattle.node.specs.Laws.{occurs, nodes}
 use Rattle.node.specs.Shape.{Tree, number, row, kids, flat, weigh, total, root_least}
@@ -21,19 +22,31 @@ use Rattle.node.specs.Breaches.{Breached}
 use Rattle.walk.specs.Climbs.{ups, Tops}
 use Rattle.walk.specs.Leaving.{Clears}
 use Rattle.walk.specs.Steps.{step}
-use Rattle.walk.specs.Walks.{Walks, Emptied, Closes}
+use Rattle.walk.specs.Walks.{no_walk, Walks, Stepped, Opens, Emptied, Closes, Releases}
 use Rattle.walk.specs.Window.{Bounds, bounds, Shown}
-use Rattle.walk.proofs.Handing.{err_ok}
+use Rattle.walk.proofs.Handing.{ok_is, err_ok}
 use Rattle.walk.proofs.Stepping.{step_ends}
 use Rattle.walk.proofs.Walking.{exhausted}
 use Rattle.walk.proofs.Windows.{among_all, shown_pane, shown_inner, shown_kids, shown_fanned}
 
 -- ---- after some steps
 
--- w' is what is left of w after some steps at the front
-pub record Run {K V : Type 0} (T : Tables K V) (S S' : Stock) (w w' : Walk) : Type 0 where
+-- w' is what is left of w after d steps at the front
+pub record Run {K V : Type 0} (T : Tables K V) (S S' : Stock) (w w' : Walk) (d : ℕ) : Type 0 where
+  pub count_is : d + w'.left ≡ w.left
   pub same : w.left ≡ 0 → (w' ≡ w) × (S' ≡ S)
   pub held : (h : ℕ) (t : Tree (K × V)) → Walks T S h t w → (t' : Tree (K × V)) × Walks T S' h t' w' × Balanced S S' (λ x. occurs x h t) (λ x. occurs x h t')
+
+module _ {K V : Type 0} (T : Tables K V) where
+  pub run_more : (S S₁ S₂ : Stock) (w w₁ w₂ : Walk) (d : ℕ) (o : Option (K × V)) → Run T S S₁ w w₁ d → 0 < w₁.left → Stepped First T S₁ S₂ w₁ w₂ (Ok o) → Run T S S₂ w w₂ (d + 1)
+  run_more S S₁ S₂ w w₁ w₂ d o r l s = record {
+    count_is = omega (arith, s.one_less l, r.count_is);
+    same = λ z. absurd (omega (arith, r.count_is));
+    held = λ h t v.
+        let a = r.held h t v in
+        let b = s.hands h a.0 a.1 l in
+        (b.rest, b.walks, balanced_both S S₁ S₂ (λ x. occurs x h t) (λ x. occurs x h a.0) (λ x. occurs x h b.rest) a.2 b.balanced);
+  }
 
 -- ---- what remains when nothing is left
 
@@ -130,4 +143,23 @@ module _ {K V : Type 0} (T : Tables K V) where
     all = tt;
     few = tt;
     held = λ h t v. let l = walks_few S h t w v in absurd (both_ways a q (k l.0 l.1));
+  }
+
+  -- ---- a release, where it opens a walk and closes it
+
+  pub releases_lost : (S S' : Stock) (o : Option NodeRef) (count : ℕ) (y : Fault) (r : Result ℕ Fault) → Breached r → Opens T o count (Err y) → Releases T S S' o count r
+  releases_lost S S' o count y r g e = record {
+    fault = g;
+    none = λ z. absurd (err_ok y no_walk (e.none z));
+    some = λ n z t w. let a = e.some n z S t w in absurd (err_ok y a.walk a.answer);
+  }
+
+  pub releases_done : (S S' : Stock) (o : Option NodeRef) (count : ℕ) (w : Walk) (r : Result ℕ Fault) → Opens T o count (Ok w) → Closes T S S' w r → Releases T S S' o count r
+  releases_done S S' o count w r e c = record {
+    fault = c.fault;
+    none = λ z. let q = ok_is w no_walk (e.none z) in c.none (record { front_null = ap (λ u. u.front.node) q; back_null = ap (λ u. u.back.node) q; none_left = ap (λ u. u.left) q });
+    some = λ n z t v.
+        let a = e.some n z S t v in
+        let b = c.held n.height t (subst (λ u. Walks T S n.height t u) (sym (ok_is w a.walk a.answer)) a.walks) in
+        (b.0 ∙ ap (λ k. Ok k) (sym v.count_is), b.1);
   }

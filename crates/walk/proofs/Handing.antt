@@ -19,6 +19,7 @@ use Rattle.node.proofs.Balances.{balanced_as}
 use Rattle.node.proofs.Runs.{run_at}
 use Rattle.walk.specs.declared.climb.Spot.{Spot}
 use Rattle.walk.specs.declared.walks.Walk.{Walk}
+use Rattle.node.specs.Breaches.{Breached}
 use Rattle.walk.specs.Climbs.{handle, spot, onward, ups, Finds, Leads}
 use Rattle.walk.specs.Leaving.{Leaves}
 use Rattle.walk.specs.Steps.{step}
@@ -137,9 +138,31 @@ module _ {K V : Type 0} (s : Side) {T U : Tables K V} (y : U ≡ T) (S S' : Stoc
   leading : (q : Spot) (r : Result Handle Fault) → Leads s U.heads q r → Leads s T.heads q r
   leading q r f = subst (λ (T : Tables K V). Leads s T.heads q r) y f
 
+  -- a refusal that cannot be for a walk
+  pub stepped_refused : (r : Result (Option (K × V)) Fault) → 0 < w.left → is_err r ≡ true → Breached r → ((h : ℕ) (t : Tree (K × V)) → Walks T S h t w → Plan s T S h t w → ⊥) → Stepped s T S S' w w r
+  stepped_refused r l q g f = record {
+    fault = g;
+    none_left = λ z. absurd (omega arith);
+    one_less = λ _. IfOk-from_err r _ q;
+    kept = λ _. refl;
+    hands = λ h t v o. absurd (f h t v (plan s T S h t w v o));
+  }
+
   module _ (h : ℕ) (t : Tree (K × V)) (v : Walks T S h t w) (p : Plan s T S h t w) where
-    spot_found : (q : Spot) → Finds s U.heads 0 e (Ok q) → q ≡ spot p.way.m p.way.i p.way.n
+    pub spot_found : (q : Spot) → Finds s U.heads 0 e (Ok q) → q ≡ spot p.way.m p.way.i p.way.n
     spot_found q f = ok_is q (spot p.way.m p.way.i p.way.n) (found_is s T S h t w v p (Ok q) (at_end (Ok q) f))
+
+    pub no_spot : (y : Fault) → Finds s U.heads 0 e (Err y) → ⊥
+    no_spot y f = err_ok y (spot p.way.m p.way.i p.way.n) (found_is s T S h t w v p (Err y) (at_end (Err y) f))
+
+    pub no_entry : (q : Spot) (y : Fault) → Finds s U.heads 0 e (Ok q) → StandsAt T q (Err y) → ⊥
+    no_entry q y f a = err_ok y p.x (entry_is s T S h t w v p q (Err y) (spot_found q f) a)
+
+    pub no_edge : (q : Spot) (y : Fault) → Finds s U.heads 0 e (Ok q) → Leads s U.heads q (Err y) → ⊥
+    no_edge q y f a = err_ok y p.way.f (edge_is s T S h t w v p q (Err y) (spot_found q f) (leading q (Err y) a))
+
+    pub no_leave : (q : Spot) (y : Fault) → Finds s U.heads 0 e (Ok q) → Leaves S S' U.heads q.level e.node (Err y) → ⊥
+    no_leave q y f a = err_ok y tt (left_is s T S h t w v p q S' (Err y) (spot_found q f) (from_end q.level (Err y) a))
 
     hands_all : (q : Spot) (x : K × V) (f : Handle) → Finds s U.heads 0 e (Ok q) → StandsAt T q (Ok x) → Leads s U.heads q (Ok f) → Leaves S S' U.heads q.level e.node (Ok tt)
         → Hands s T S S' h t (moved s f w) (Ok (Some x))
@@ -151,29 +174,23 @@ module _ {K V : Type 0} (s : Side) {T U : Tables K V} (y : U ≡ T) (S S' : Stoc
         (subst (λ g. Hands s T S S' h t (moved s g w) (Ok (Some p.x))) (sym f-is)
         (hands_on s T S h t w v p S' (subst (λ q. Leaves S S' T.heads q.level (end_of s w).node (Ok tt)) is (from_end q.level (Ok tt) d)).given))
 
-  -- a refusal that cannot be for a walk
+  -- the refusals of the code
   module _ (r : Result (Option (K × V)) Fault) (f : Fault) (l : 0 < w.left) (c : is_err r ≡ true × IsErrAnd r (λ z. z ≡ f)) (g : f ≡ Breach) where
     refused : ((h : ℕ) (t : Tree (K × V)) → Walks T S h t w → Plan s T S h t w → ⊥) → Stepped s T S S' w w r
-    refused a = record {
-      fault = breached_by r f c.1 g;
-      none_left = λ z. absurd (omega arith);
-      one_less = λ _. IfOk-from_err r _ c.0;
-      kept = λ _. refl;
-      hands = λ h t v o. absurd (a h t v (plan s T S h t w v o));
-    }
+    refused a = stepped_refused r l c.0 (breached_by r f c.1 g) a
 
     pub refused_spot : Finds s U.heads 0 e (Err f) → Stepped s T S S' w w r
-    refused_spot a = refused (λ h t v p. err_ok f (spot p.way.m p.way.i p.way.n) (found_is s T S h t w v p (Err f) (at_end (Err f) a)))
+    refused_spot a = refused (λ h t v p. no_spot h t v p f a)
 
     module _ (q : Spot) (x : Finds s U.heads 0 e (Ok q)) where
       pub refused_entry : StandsAt T q (Err f) → Stepped s T S S' w w r
-      refused_entry a = refused (λ h t v p. err_ok f p.x (entry_is s T S h t w v p q (Err f) (spot_found h t v p q x) a))
+      refused_entry a = refused (λ h t v p. no_entry h t v p q f x a)
 
       pub refused_edge : Leads s U.heads q (Err f) → Stepped s T S S' w w r
-      refused_edge a = refused (λ h t v p. err_ok f p.way.f (edge_is s T S h t w v p q (Err f) (spot_found h t v p q x) (leading q (Err f) a)))
+      refused_edge a = refused (λ h t v p. no_edge h t v p q f x a)
 
       pub refused_leave : Leaves S S' U.heads q.level e.node (Err f) → Stepped s T S S' w w r
-      refused_leave a = refused (λ h t v p. err_ok f tt (left_is s T S h t w v p q S' (Err f) (spot_found h t v p q x) (from_end q.level (Err f) a)))
+      refused_leave a = refused (λ h t v p. no_leave h t v p q f x a)
 
   pub stepped_done : (w' : Walk) (q : Spot) (x : K × V) (f : Handle) → 0 < w.left → w' ≡ moved s f w
       → Finds s U.heads 0 e (Ok q) → StandsAt T q (Ok x) → Leads s U.heads q (Ok f) → Leaves S S' U.heads q.level e.node (Ok tt) → Stepped s T S S' w w' (Ok (Some x))

@@ -1,8 +1,10 @@
 -- A whole tree as a walk. Assumes nothing.
 use Rattle.std.proofs.lemmas.Option.{none-some}
 use Rattle.std.proofs.Common.{◌≡◌, ℕ, zero, suc, ◌≤◌, List, [], ◌∷◌, ◌++◌, length, Some, None, Ok, Err, All, Option, Result, sym, refl, ap, ◌∙◌, subst, append-nil, arith}
+use Rattle.std.specs.Result.{result_or}
 use Rattle.std.proofs.lemmas.List.Elements.{All-head, All-tail}
 use Rattle.supply.specs.declared.faults.Fault.{Fault}
+use Rattle.supply.specs.declared.faults.Fault.TheVariants.{Breach}
 use Rattle.supply.specs.Stocks.{Stock}
 use Rattle.node.specs.declared.ends.Handle.{Handle}
 use Rattle.node.specs.declared.ends.Side.{Side}
@@ -34,6 +36,14 @@ module _ {X : Type 0} (P : Bounds → X → Type 0) where
   among_unbounded [] a = tt
   among_unbounded (k ∷ []) a = All-head (P unbounded) k [] a
   among_unbounded (k ∷ (k' ∷ ks)) a = (All-head (P unbounded) k (k' ∷ ks) a, among_unbounded (k' ∷ ks) (All-tail (P unbounded) k (k' ∷ ks) a))
+
+err_is : {X : Type 0} (y z : Fault) → ◌≡◌ {A = Result X Fault} (Err y) (Err z) → y ≡ z
+err_is y z e = cc
+
+-- a refusal with a breach in place of any other
+pub or_breach : {X : Type 0} (y : Fault) (q : Result X Fault) → Err y ≡ result_or q (Err Breach) → y ≡ Breach
+or_breach y (Ok x) e = absurd (err_ok y x e)
+or_breach y (Err z) e = err_is y Breach e
 
 module _ {K V : Type 0} (T : Tables K V) where
   whole_pane : (least : ℕ) (t : Tree (K × V)) → Node T (number t) (row t) (numbers t) → least ≤ length (row t) → Pane T least unbounded t
